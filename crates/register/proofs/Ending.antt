@@ -1,0 +1,94 @@
+-- Every operation ends: on an area that a run left nobody busy is refused, and what is under way is within its bound.
+-- Assumes nothing.
+use mathlib.Core.Path.{_≡_, refl, ap, subst₂, _∙_}
+use mathlib.Core.Logic.{_≢_}
+use mathlib.Core.Bool.{Bool, true, false, cond}
+use mathlib.Core.List.{List}
+use Prim.Native.Nat.{ℕ, suc, _+_, _≤_, _<_}
+use native.Mathlib.Decide.{ℕ-discrete}
+use native.Mathlib.Omega.{arith}
+use lib.Dec.{eqb}
+use lib.ListN.{length}
+use Rattle.register.specs.Place.{Record, Memory}
+use Rattle.register.specs.Area.{phase, len, writer-phase, writer-len, readers, capacity, is-area, memory, undamaged}
+use Rattle.register.specs.Steps
+use Rattle.register.specs.Steps.{Plan, refuse, accept, read-plan, write-plan, Move, read, write, step, mover}
+use Rattle.register.specs.Calls.{carried-out, answered}
+use Rattle.register.specs.History.{History}
+use Rattle.register.specs.Demands.{Run, now, told, NeverStuck, UnderWay, Ends}
+use Rattle.register.proofs.Tests.{eqb-equal, eqb-other}
+use Rattle.register.proofs.Held.{scan-within}
+use Rattle.register.proofs.Going.{number-of, read-begin-number, write-begin-number, step-number}
+use Rattle.register.proofs.StepCounts.{few-early, few-late}
+use Rattle.register.proofs.Whole.{Whole}
+use Rattle.register.proofs.Called.{its-plan, whole-area}
+use Rattle.register.proofs.Promise.{Good, run-ends-good}
+
+-- on an undamaged area a call gives the number of its plan
+plan-number : (a : List ℕ) (x : Move) → is-area a ≡ true → undamaged a ≡ true → answered a x .number ≡ number-of (its-plan a x)
+unfolding answered carried-out
+plan-number a x ea es = rw (ea, es) (go (its-plan a x))
+  where
+    go : (y : Plan) → carried-out (mover (readers a) x) a y .number ≡ number-of y
+    go (refuse k) = refl
+    go (accept stores ends) = refl
+
+module _ {n c : ℕ} {first : Record} {all-moves : ℕ} {a : List ℕ} {h : History} (g : Good n c first all-moves a h) where
+  whole : Whole n c (memory a)
+  whole = subst₂ (λ j k. Whole j k (memory a)) (g .its-readers) (g .its-capacity) (whole-area a (g .sound))
+
+  goes : NeverStuck n c a
+  goes =
+      record {
+        reads = λ r.
+            plan-number a (read r) (g .area) (g .sound)
+            ∙ ap (λ j. number-of (read-plan j (memory a) r)) (g .its-readers) ∙ read-begin-number n c (memory a) r;
+        writes = λ v.
+            plan-number a (write v) (g .area) (g .sound)
+            ∙ ap (λ k. number-of (write-plan (readers a) (memory a) k v)) (g .its-capacity)
+            ∙ write-begin-number (readers a) c (memory a) v;
+        steps = λ p.
+            plan-number a (step p) (g .area) (g .sound)
+            ∙ ap (λ j. number-of (Steps.step-plan j (memory a) p)) (g .its-readers)
+            ∙ step-number n c (memory a) (g .counted) whole (g .clean) p;
+      }
+
+  -- a read under way
+  reading-on : (r : ℕ) → r < n → memory a (phase r) ≢ 0
+      → h .steps r < cond (eqb (memory a (phase r)) 5) (memory a (len r)) c + 4
+  reading-on r l busy = go (ℕ-discrete (memory a (phase r)) 5)
+    where
+      go : Dec (memory a (phase r) ≡ 5) → h .steps r < cond (eqb (memory a (phase r)) 5) (memory a (len r)) c + 4
+      go (yes e) =
+          rw (eqb-equal _ _ e) (omega (arith, few-late (g .bounded .reader r l) e, g .told .reader r l .copied e .2))
+      go (no d) =
+          let few : memory a (phase r) ≤ 4 = omega (arith, whole .desk r l .phases) in
+          rw (eqb-other _ _ d) (omega (arith, few-early (g .bounded .reader r l) busy few))
+
+  -- a write under way
+  abbrev k : ℕ
+  k = memory a writer-phase
+
+  looking-on : k ≢ 0 → h .looks ≤ n + 2
+  looking-on busy = go (ℕ-discrete k 1)
+    where
+      go : Dec (k ≡ 1) → h .looks ≤ n + 2
+      go (yes e) = omega (arith, g .bounded .writer .scanned e, scan-within n (memory a) (g .counted) e)
+      go (no d) = g .bounded .writer .few (omega arith)
+
+  writing-on : k ≢ 0 → h .steps n < n + memory a writer-len + 7
+  writing-on busy = go (ℕ-discrete k 1) (ℕ-discrete k 2) (ℕ-discrete k 7)
+    where
+      go : Dec (k ≡ 1) → Dec (k ≡ 2) → Dec (k ≡ 7) → h .steps n < n + memory a writer-len + 7
+      go (yes e) b d = omega (arith, g .bounded .writer .scanned e, scan-within n (memory a) (g .counted) e)
+      go (no x) (yes e) d =
+          omega (arith, g .bounded .writer .copying e, g .bounded .writer .few (omega arith), whole .writer .part)
+      go (no x) (no y) (yes e) = omega (arith, g .bounded .writer .told e, g .bounded .writer .few (omega arith))
+      go (no x) (no y) (no z) =
+          let hi : k ≤ 6 = omega (arith, whole .writer .phases) in
+          omega (arith, g .bounded .writer .rest (omega arith) hi, g .bounded .writer .few (omega arith))
+
+pub it-ends : Ends
+it-ends u =
+    let g = run-ends-good u in
+    (goes g, record { reads = reading-on g; looks = looking-on g; writes = writing-on g })

@@ -1,0 +1,92 @@
+-- The places of form 1: each name of document 01 is a place that the area has, and no step stores to words 0 to 6.
+-- Assumes nothing.
+use mathlib.Core.Path.{_≡_, refl}
+use mathlib.Core.List.{List, [], _∷_, _++_}
+use Prim.Native.Nat.{ℕ, suc, _+_, _≤_, _<_}
+use native.Mathlib.Omega.{arith}
+use lib.ListN.{length}
+use Rattle.register.specs.Place.{Record, Place, Store, copied}
+use Rattle.register.specs.Table.{address}
+use Rattle.register.specs.Area.{form1, header, current, slot-field, contents, desk-field, read-record, writer-field, write-record}
+use Rattle.register.specs.Demands.{Each, none, also, Untouched}
+use Rattle.register.proofs.Tests.{each-follows}
+use Rattle.register.proofs.Tables.{Has, AllHas}
+
+module _ (n c : ℕ) where
+  -- a place of the area behind the first seven words
+  pub record Own (p : Place) : Type 0 where
+    pub has : Has (form1 n c) p
+    pub behind : 7 ≤ address (form1 n c) p
+
+  abbrev pub AllOwn : List Store → Type 0
+  AllOwn = Each (λ s. Own (s .place))
+
+  pub all-has : {l : List Store} → AllOwn l → AllHas (form1 n c) l
+  all-has = each-follows (λ s o. o .has)
+
+  pub head-untouched : {l : List Store} (i : ℕ) → i < 7 → AllOwn l → Untouched (form1 n c) i l
+  head-untouched i h = each-follows (λ s o e. omega (arith, o .behind))
+
+  pub own-append : (k l : List Store) → AllOwn k → AllOwn l → AllOwn (k ++ l)
+  own-append [] l none w = w
+  own-append (s ∷ k) l (also h v) w = also h (own-append k l v w)
+
+  pub has-header : (i : ℕ) → i < 8 → Has (form1 n c) (header i)
+  has-header i l =
+      record { part = omega arith; row = omega arith; field = omega arith; many = λ e. omega arith; single = λ d. refl }
+
+  pub own-current : Own current
+  own-current = record { has = has-header 7 (omega arith); behind = omega arith }
+
+  pub own-slot : (f s : ℕ) → f < 4 → s < n + 2 → Own (slot-field f s)
+  own-slot f s l k =
+      record {
+        has = record { part = omega arith; row = k; field = omega arith; many = λ e. absurd (omega arith); single = λ d. refl };
+        behind = omega arith;
+      }
+
+  pub own-contents : (s i : ℕ) → s < n + 2 → i < c → Own (contents s i)
+  own-contents s i k l =
+      record {
+        has = record { part = omega arith; row = k; field = omega arith; many = λ e. l; single = λ d. absurd (d refl) };
+        behind = omega arith;
+      }
+
+  pub own-desk : (f r : ℕ) → f < 6 → r < n → Own (desk-field f r)
+  own-desk f r l k =
+      record {
+        has = record { part = omega arith; row = k; field = omega arith; many = λ e. absurd (omega arith); single = λ d. refl };
+        behind = omega arith;
+      }
+
+  pub own-read-record : (r i : ℕ) → r < n → i < c → Own (read-record r i)
+  own-read-record r i k l =
+      record {
+        has = record { part = omega arith; row = k; field = omega arith; many = λ e. l; single = λ d. absurd (d refl) };
+        behind = omega arith;
+      }
+
+  pub own-writer : (f : ℕ) → f < 7 → Own (writer-field f)
+  own-writer f l =
+      record {
+        has = record {
+          part = omega arith;
+          row = omega arith;
+          field = omega arith;
+          many = λ e. absurd (omega arith);
+          single = λ d. refl;
+        };
+        behind = omega arith;
+      }
+
+  pub own-write-record : (i : ℕ) → i < c → Own (write-record i)
+  own-write-record i l =
+      record {
+        has = record { part = omega arith; row = omega arith; field = omega arith; many = λ e. l; single = λ d. absurd (d refl) };
+        behind = omega arith;
+      }
+
+  -- a record that is copied into a row
+  pub own-copied : (at : ℕ → Place) → ((i : ℕ) → i < c → Own (at i)) → (v : Record) (i : ℕ) → i + length v ≤ c → AllOwn (copied at i v)
+  own-copied at h [] i l = none
+  own-copied at h (x ∷ v) i l = also (h i (omega arith)) (own-copied at h v (suc i) (omega arith))

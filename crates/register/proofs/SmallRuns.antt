@@ -1,0 +1,92 @@
+-- Document 01's small runs marked P, computed from the definitions: one statement over one table. Assumes nothing.
+use mathlib.Core.Path.{_≡_, refl}
+use mathlib.Core.Bool.{Bool, true, false, cond}
+use mathlib.Core.List.{List, [], _∷_, _++_, map}
+use Prim.Native.Nat.{ℕ, zero, suc, _+_}
+use lib.ListN.{length, getD, take, replicate}
+use Rattle.register.specs.Place.{Record}
+use Rattle.register.specs.Table.{total}
+use Rattle.register.specs.Area.{form1, current, in-hand, is-area, slot-sound, desk-sound, writer-sound, undamaged, memory}
+use Rattle.register.specs.Steps.{reader-step, writer-step, Move, read, write, step}
+use Rattle.register.specs.Calls.{Answer, fresh, made, carried-out, answered, is-own, shown}
+use Rattle.register.specs.Demands.{Each, none, also}
+use Rattle.register.specs.History.{after, Read, Write, history}
+
+-- the answer to a move after some others
+abbrev pub answer-to : List ℕ → List Move → Move → Answer
+answer-to a l x = answered (after a l) x
+
+abbrev flag : Bool → ℕ
+flag true = 1
+flag false = 0
+
+-- number, ended, age, and the record that reader 0 then shows
+abbrev said : Answer → List ℕ
+said x = x .number ∷ flag (x .ended) ∷ x .age ∷ shown (x .area) 0 []
+
+-- a write of a record, in so many steps of the writer, which is process 1
+abbrev pub written : Record → ℕ → List Move
+written v k = write v ∷ replicate k (step 1)
+
+abbrev pub areaP1 : List ℕ
+areaP1 = fresh 1 1 (7 ∷ [])
+
+abbrev areaP8 : List ℕ
+areaP8 = fresh 1 2 (1 ∷ 2 ∷ [])
+
+-- the moves of input A, of which the last is refused
+abbrev pub input-A : List Move
+input-A = written (8 ∷ []) 7 ++ (read 0 ∷ replicate 5 (step 0)) ++ (step 1 ∷ step 0 ∷ [])
+
+abbrev pub current-word : List ℕ → ℕ
+current-word a = memory a current
+
+-- what the definitions give, and what document 01 says
+pub record Row : Type 0 where
+  pub given : List ℕ
+  pub wanted : List ℕ
+
+abbrev row-of : List ℕ → List ℕ → Row
+row-of x y = record { given = x; wanted = y }
+
+abbrev two-writes : List Move
+two-writes = written (8 ∷ []) 8 ++ written (9 ∷ []) 9
+
+abbrev paused : List Move
+paused = (read 0 ∷ replicate 3 (step 0)) ++ written (3 ∷ 4 ∷ []) 9 ++ written (5 ∷ 6 ∷ []) 10
+
+abbrev pub small-runs : List Row
+small-runs =
+    -- P1
+    row-of (getD areaP1 3 0 ∷ getD areaP1 4 0 ∷ getD areaP1 5 0 ∷ getD areaP1 6 0 ∷ current-word areaP1 ∷ [])
+    (38 ∷ 8 ∷ 23 ∷ 30 ∷ 1 ∷ [])
+    -- P2, P3
+    ∷ row-of (total (form1 2 2) ∷ total (form1 64 256) ∷ []) (57 ∷ 34199 ∷ [])
+    -- P4, P5
+    ∷ row-of (current-word (after areaP1 (take 8 input-A)) ∷ current-word (after areaP1 (take 12 input-A)) ∷ [])
+    (4294967296 ∷ 4294967297 ∷ [])
+    -- P6
+    ∷ row-of (said (answer-to areaP1 (read 0 ∷ step 0 ∷ step 0 ∷ []) (step 0))) (0 ∷ 1 ∷ 0 ∷ 7 ∷ [])
+    ∷ row-of (current-word (after areaP1 (read 0 ∷ step 0 ∷ step 0 ∷ step 0 ∷ [])) ∷ []) (1 ∷ [])
+    -- P7: the looks, newest first; the slot of each write
+    ∷ row-of (map (λ w. w .looks) (history areaP1 two-writes .writes)) (3 ∷ 2 ∷ [])
+    ∷ row-of (memory (after areaP1 (written (8 ∷ []) 8)) in-hand ∷ memory (after areaP1 two-writes) in-hand ∷ []) (1 ∷ 2 ∷ [])
+    -- P8
+    ∷ row-of (said (answer-to areaP8 paused (step 0))) (0 ∷ 1 ∷ 2 ∷ 1 ∷ 2 ∷ [])
+    -- P9
+    ∷ row-of
+    (answered areaP8 (write (3 ∷ 4 ∷ [])) .number
+    ∷ answered areaP8 (write (3 ∷ 4 ∷ 5 ∷ [])) .number
+    ∷ answer-to areaP8 (write [] ∷ []) (write (3 ∷ 4 ∷ 5 ∷ [])) .number
+    ∷ [])
+    (0 ∷ 4 ∷ 4 ∷ [])
+    -- P10
+    ∷ row-of (answered areaP1 (step 0) .number ∷ answered areaP1 (step 1) .number ∷ []) (6 ∷ 6 ∷ [])
+    ∷ []
+
+-- every row holds
+pub small-runs-hold : Each (λ x. x .given ≡ x .wanted) small-runs
+unfolding is-area slot-sound desk-sound writer-sound undamaged reader-step writer-step carried-out answered is-own shown
+small-runs-hold =
+    also refl
+    (also refl (also refl (also refl (also refl (also refl (also refl (also refl (also refl (also refl none)))))))))

@@ -1,0 +1,93 @@
+-- The calls: from any words, any process and any record to the answer and every word after the call. Assumes nothing.
+use mathlib.Core.Bool.{Bool, true, false, cond, _&&_}
+use mathlib.Core.List.{List, [], _∷_}
+use Prim.Native.Nat.{ℕ, _-_}
+use lib.Dec.{eqb, ltb, leb}
+use lib.ListN.{length, take, drop, replicate}
+use Rattle.register.specs.Place.{Record, Memory, Store, _≔_, copied}
+use Rattle.register.specs.Table.{total, address, view, store}
+use Rattle.register.specs.Area.{form1, slots-at, desks-at, writer-at, header, current, size, contents}
+use Rattle.register.specs.Area.{phase, len, desk-write-number, finished, read-record, writes-ended}
+use Rattle.register.specs.Area.{all, in-range, known-form, readers, capacity, table, is-area, memory, undamaged}
+use Rattle.register.specs.Steps.{Plan, refuse, accept, Move, read, write, step, mover, plan}
+
+-- what a call returns, and the area as it leaves it
+pub record Answer : Type 0 where
+  pub number : ℕ
+  pub ended : Bool
+  pub age : ℕ
+  pub area : List ℕ
+
+abbrev pub refused : ℕ → List ℕ → Answer
+refused k a = record { number = k; ended = false; age = 0; area = a }
+
+-- ---- making (I1)
+
+abbrev pub making : ℕ → ℕ → Record → List Store
+making n c v =
+    header 0 ≔ 1 ∷ header 1 ≔ n ∷ header 2 ≔ c ∷ header 3 ≔ total (form1 n c) ∷ header 4 ≔ slots-at n c
+    ∷ header 5 ≔ desks-at n c ∷ header 6 ≔ writer-at n c ∷ current ≔ n ∷ size 0 ≔ length v ∷ copied (contents 0) 0 v
+
+-- the stores of making on words that are all 0
+abbrev pub fresh : ℕ → ℕ → Record → List ℕ
+fresh n c v = store (form1 n c) (replicate (total (form1 n c)) 0) (making n c v)
+
+unfoldable pub made : ℕ → ℕ → ℕ → Record → List ℕ → Answer
+made form n c v a =
+    cond (known-form form && in-range n c)
+    (cond (eqb (length a) (total (form1 n c)))
+    (cond (leb (length v) c) (record { number = 0; ended = false; age = 0; area = fresh n c v }) (refused 4 a))
+    (refused 10 a))
+    (refused 9 a)
+
+-- ---- calls on an existing area
+
+-- writes ended less the read's write number, and 0 if that would be negative
+abbrev pub age-of : Memory → ℕ → ℕ
+age-of m r = m writes-ended - m (desk-write-number r)
+
+-- a plan carried out; p, the process, matters to the age alone, which only the end of a read has
+unfoldable pub carried-out : ℕ → List ℕ → Plan → Answer
+carried-out p a (refuse k) = refused k a
+carried-out p a (accept stores ends) =
+    record {
+      number = 0;
+      ended = ends;
+      age = cond (ends && ltb p (readers a)) (age-of (view (table a) (store (table a) a stores)) p) 0;
+      area = store (table a) a stores;
+    }
+
+-- every call on an existing area tests it before anything else, and then carries out its plan
+unfoldable pub answered : List ℕ → Move → Answer
+answered a x =
+    cond (is-area a)
+    (cond (undamaged a) (carried-out (mover (readers a) x) a (plan (readers a) (capacity a) (memory a) x)) (refused 2 a))
+    (refused 1 a)
+
+abbrev pub read-begun : List ℕ → ℕ → Answer
+read-begun a r = answered a (read r)
+
+abbrev pub write-begun : List ℕ → Record → Answer
+write-begun a v = answered a (write v)
+
+abbrev pub stepped : List ℕ → ℕ → Answer
+stepped a p = answered a (step p)
+
+-- ---- showing a record
+
+-- whether it is the reader's: the area is undamaged, the reader exists, is idle and has finished
+abbrev pub own-tests : List ℕ → ℕ → List Bool
+own-tests a r =
+    is-area a ∷ undamaged a ∷ ltb r (readers a) ∷ eqb (memory a (phase r)) 0 ∷ eqb (memory a (finished r)) 1 ∷ []
+
+unfoldable pub is-own : List ℕ → ℕ → Bool
+is-own a r = all (own-tests a r)
+
+-- len words of the area, from an address on
+abbrev pub words-from : List ℕ → ℕ → ℕ → Record
+words-from a i k = take k (drop i a)
+
+-- the len words in that reader's desk, or the caller's whole default
+unfoldable pub shown : List ℕ → ℕ → Record → Record
+shown a r default =
+    cond (is-own a r) (words-from a (address (table a) (read-record r 0)) (memory a (len r))) default

@@ -1,0 +1,9 @@
+-- Document 01 as definitions, in the order in which to read them. Assumes nothing.
+pub mod Place
+pub mod Table
+pub mod Area
+pub mod Steps
+pub mod Calls
+pub mod History
+pub mod Line
+pub mod Demands

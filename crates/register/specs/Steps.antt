@@ -1,0 +1,160 @@
+-- The steps of readers and writer: the stores of each, named once, and the plan that picks them. Assumes nothing.
+use mathlib.Core.Bool.{Bool, true, false, cond, _&&_, not}
+use mathlib.Core.List.{List, [], _∷_, _++_}
+use Prim.Native.Nat.{ℕ, suc, _+_, _*_}
+use lib.Dec.{eqb, ltb, leb}
+use lib.ListN.{length, getD}
+use Rattle.register.specs.Place.{Record, Memory, Store, _≔_, copied}
+use Rattle.register.specs.Area.{current, index, counter, r-start, r-end, size, slot-write-number, contents}
+use Rattle.register.specs.Area.{phase, last, pos, len, desk-write-number, finished, read-record}
+use Rattle.register.specs.Area.{writer-phase, last-slot, in-hand, writer-pos, writer-len, old-word}
+use Rattle.register.specs.Area.{writes-ended, write-record, limit, most-writes}
+
+-- what a call on an undamaged area does: it refuses by a number, or it makes stores and says if an operation ended
+pub data Plan : Type 0 where
+  refuse : ℕ → Plan
+  accept : List Store → Bool → Plan
+
+-- the plan for a phase, from a list of one for each; on an undamaged area no phase is past the list
+abbrev pub at-phase : ℕ → List Plan → Plan
+at-phase p plans = getD plans p (refuse 2)
+
+-- ---- the stores of reader r
+
+abbrev pub turns : ℕ → ℕ → List Store
+turns r p = phase r ≔ p ∷ []
+
+-- (R1) look at current's index: equal to last, or not
+abbrev pub turns-to : Memory → ℕ → ℕ
+turns-to m r = cond (eqb (index (m current)) (m (last r))) 4 2
+
+-- (R3) add 1 to r_end of slot last
+abbrev pub unbinds : Memory → ℕ → List Store
+unbinds m r = r-end (m (last r)) ≔ suc (m (r-end (m (last r)))) ∷ phase r ≔ 3 ∷ []
+
+-- (R4, R5) add 1 to current; last becomes its index
+abbrev pub binds : Memory → ℕ → List Store
+binds m r = current ≔ suc (m current) ∷ last r ≔ index (suc (m current)) ∷ phase r ≔ 4 ∷ []
+
+-- take size and write number of slot last
+abbrev pub takes : Memory → ℕ → List Store
+takes m r =
+    len r ≔ m (size (m (last r))) ∷ desk-write-number r ≔ m (slot-write-number (m (last r))) ∷ pos r ≔ 0 ∷ []
+
+-- copy the word at pos from slot last; add 1 to pos
+abbrev pub copies : Memory → ℕ → List Store
+copies m r =
+    read-record r (m (pos r)) ≔ m (contents (m (last r)) (m (pos r))) ∷ pos r ≔ suc (m (pos r)) ∷ []
+
+-- the read ends
+abbrev pub finishes : ℕ → List Store
+finishes r = finished r ≔ 1 ∷ phase r ≔ 0 ∷ []
+
+-- ---- the stores of the writer
+
+-- the record, and the desk's other words; words past len stay
+abbrev pub begins-write : Record → List Store
+begins-write v =
+    copied write-record 0 v ++ (writer-len ≔ length v ∷ in-hand ≔ 0 ∷ writer-pos ≔ 0 ∷ writer-phase ≔ 1 ∷ [])
+
+-- (W1) the slot in hand is free if it is not last slot and its r_start equals its r_end
+abbrev pub free : Memory → Bool
+free m = not (eqb (m in-hand) (m last-slot)) && eqb (m (r-start (m in-hand))) (m (r-end (m in-hand)))
+
+abbrev pub picks : Memory → List Store
+picks m = writer-phase ≔ cond (eqb (m writer-len) 0) 3 2 ∷ []
+
+abbrev pub passes : Memory → List Store
+passes m = in-hand ≔ suc (m in-hand) ∷ []
+
+-- copy the word at pos from the desk to the same place in the slot's contents; add 1 to pos
+abbrev pub fills : Memory → List Store
+fills m =
+    contents (m in-hand) (m writer-pos) ≔ m (write-record (m writer-pos)) ∷ writer-pos ≔ suc (m writer-pos)
+    ∷ writer-phase ≔ cond (eqb (suc (m writer-pos)) (m writer-len)) 3 2 ∷ []
+
+-- write number becomes writes ended + 1, size becomes len; in one step, so their order is free
+abbrev pub sizes : Memory → List Store
+sizes m =
+    slot-write-number (m in-hand) ≔ suc (m writes-ended) ∷ size (m in-hand) ≔ m writer-len ∷ writer-phase ≔ 4 ∷ []
+
+abbrev pub clears-start : Memory → List Store
+clears-start m = r-start (m in-hand) ≔ 0 ∷ writer-phase ≔ 5 ∷ []
+
+abbrev pub clears-end : Memory → List Store
+clears-end m = r-end (m in-hand) ≔ 0 ∷ writer-phase ≔ 6 ∷ []
+
+-- (W2) the exchange: this publishes
+abbrev pub publishes : Memory → List Store
+publishes m = old-word ≔ m current ∷ current ≔ m in-hand * 4294967296 ∷ writer-phase ≔ 7 ∷ []
+
+-- (W3) r_start of the old word's index becomes the old word's counter
+abbrev pub freezes : Memory → List Store
+freezes m =
+    r-start (index (m old-word)) ≔ counter (m old-word) ∷ last-slot ≔ m in-hand ∷ writes-ended ≔ suc (m writes-ended)
+    ∷ writer-phase ≔ 0 ∷ []
+
+-- ---- the plans, with n readers
+
+module _ (n : ℕ) (m : Memory) where
+  -- a begin of reader r
+  abbrev pub read-plan : ℕ → Plan
+  read-plan r = cond (ltb r n) (cond (eqb (m (phase r)) 0) (accept (turns r 1) false) (refuse 5)) (refuse 3)
+
+  -- a begin of the writer with a record, where records have at most c words
+  abbrev pub write-plan : ℕ → Record → Plan
+  write-plan c v =
+      cond (leb (length v) c)
+      (cond (eqb (m writer-phase) 0)
+      (cond (ltb (m writes-ended) most-writes) (accept (begins-write v) false) (refuse 7)) (refuse 5))
+      (refuse 4)
+
+  -- one step of reader r, by its phase
+  unfoldable pub reader-step : ℕ → Plan
+  reader-step r =
+      at-phase (m (phase r))
+      (refuse 6
+      ∷ accept (turns r (turns-to m r)) false
+      ∷ cond (ltb (m (r-end (m (last r)))) (limit n)) (accept (unbinds m r) false) (refuse 2)
+      ∷ cond (ltb (counter (m current)) (limit n)) (accept (binds m r) false) (refuse 2)
+      ∷ cond (eqb (m (size (m (last r)))) 0) (accept (takes m r ++ finishes r) true)
+      (accept (takes m r ++ turns r 5) false)
+      ∷ cond (eqb (suc (m (pos r))) (m (len r))) (accept (copies m r ++ finishes r) true) (accept (copies m r) false)
+      ∷ [])
+
+  -- one step of the writer, by its phase
+  unfoldable pub writer-step : Plan
+  writer-step =
+      at-phase (m writer-phase)
+      (refuse 6
+      ∷ cond (free m) (accept (picks m) false) (cond (eqb (m in-hand) (suc n)) (refuse 8) (accept (passes m) false))
+      ∷ accept (fills m) false
+      ∷ accept (sizes m) false
+      ∷ accept (clears-start m) false
+      ∷ accept (clears-end m) false
+      ∷ accept (publishes m) false
+      ∷ accept (freezes m) true
+      ∷ [])
+
+  -- processes 0 to N − 1 are the readers, process N is the writer
+  abbrev pub step-plan : ℕ → Plan
+  step-plan p = cond (ltb p n) (reader-step p) (cond (eqb p n) writer-step (refuse 3))
+
+-- ---- moves
+
+-- a begin of a read by a reader, a begin of a write with a record, one step of a process
+pub data Move : Type 0 where
+  read : ℕ → Move
+  write : Record → Move
+  step : ℕ → Move
+
+-- the process that moves
+abbrev pub mover : ℕ → Move → ℕ
+mover n (read r) = r
+mover n (write v) = n
+mover n (step p) = p
+
+abbrev pub plan : ℕ → ℕ → Memory → Move → Plan
+plan n c m (read r) = read-plan n m r
+plan n c m (write v) = write-plan n m c v
+plan n c m (step p) = step-plan n m p
