@@ -1,7 +1,10 @@
--- The counts of a register with readers' counters, over bare numbers: what each kind of step does to them. Assumes nothing.
+-- The counts of a register with readers' counters, over bare numbers: what each kind of step does to them. Assumes
+-- nothing.
 --
--- n readers; `here` and `counted` are the index and the counter of the current word, `old` and `frozen` those of the old word;
--- `started` and `gone` are r_start and r_end of each slot, `bound` is how many readers are bound to it; the writer is in phase
+-- n readers; `here` and `counted` are the index and the counter of the current word, `old` and `frozen` those of the
+-- old word;
+-- `started` and `gone` are r_start and r_end of each slot, `bound` is how many readers are bound to it; the writer is
+-- in phase
 -- `phase` with last slot `last` and slot in hand `hand`.
 use mathlib.Core.Path.{_≡_, refl, sym, ap, _∙_}
 use mathlib.Core.Logic.{_≢_}
@@ -20,7 +23,8 @@ pub data Stage (n here : ℕ) (gone bound : ℕ → ℕ) (phase last hand old fr
   told : phase ≡ 7 → hand ≡ here → away ≡ old → old < n + 2 → old ≢ here → frozen ≡ gone old + bound old
       → Stage n here gone bound phase last hand old frozen away
 
--- every slot's r_start is its r_end and its bound readers, but for the slot away and the current one, whose counter it is
+-- every slot's r_start is its r_end and its bound readers, but for the slot away and the current one, whose counter
+-- it is
 abbrev pub Settled : ℕ → ℕ → (ℕ → ℕ) → (ℕ → ℕ) → (ℕ → ℕ) → ℕ → Type 0
 Settled n here started gone bound away = (s : ℕ) → s < n + 2 → s ≢ here → s ≢ away → started s ≡ gone s + bound s
 
@@ -34,8 +38,10 @@ pub record Balance (n here counted : ℕ) (started gone bound : ℕ → ℕ) (ph
 module _ {n here counted : ℕ} {started gone bound : ℕ → ℕ} {phase last hand old frozen : ℕ}
     (b : Balance n here counted started gone bound phase last hand old frozen) where
   -- reader step 2: one reader fewer is bound to slot l, one more is counted as gone
-  pub one-leaves : (gone′ bound′ : ℕ → ℕ) (l : ℕ) → ((s : ℕ) → s ≢ l → gone′ s ≡ gone s) → ((s : ℕ) → s ≢ l → bound′ s ≡ bound s)
-      → gone′ l ≡ suc (gone l) → bound l ≡ suc (bound′ l) → Balance n here counted started gone′ bound′ phase last hand old frozen
+  pub one-leaves : (gone′ bound′ : ℕ → ℕ) (l : ℕ) → ((s : ℕ) → s ≢ l → gone′ s ≡ gone s)
+      → ((s : ℕ) → s ≢ l → bound′ s ≡ bound s)
+      → gone′ l ≡ suc (gone l) → bound l ≡ suc (bound′ l)
+      → Balance n here counted started gone′ bound′ phase last hand old frozen
   one-leaves gone′ bound′ l other-gone other-bound more fewer =
       record {
         away = b .away;
@@ -84,9 +90,11 @@ module _ {n here counted : ℕ} {started gone bound : ℕ → ℕ} {phase last h
 
   -- the writer begins: some slot is free, for n readers cannot hold n + 1 slots
   pub write-begins : phase ≡ 0 → sum (n + 2) bound ≤ n → Balance n here counted started gone bound 1 last 0 old frozen
-  write-begins e few = record { away = b .away; slot = b .slot; stage = on (b .stage); now = b .now; settled = b .settled }
+  write-begins e few =
+      record { away = b .away; slot = b .slot; stage = on (b .stage); now = b .now; settled = b .settled }
     where
-      on : {away : ℕ} → Stage n here gone bound phase last hand old frozen away → Stage n here gone bound 1 last 0 old frozen away
+      on : {away : ℕ} → Stage n here gone bound phase last hand old frozen away
+          → Stage n here gone bound 1 last 0 old frozen away
       on (idle p q a) = let (s, h, j, z) = spare n here bound (b .slot) few in scanning refl q a s (omega arith) h j z
       on (scanning p q a s h g j z) = absurd (omega arith)
       on (filling p q a w h g z f) = absurd (omega arith)
@@ -138,7 +146,8 @@ module _ {n here counted : ℕ} {started gone bound : ℕ → ℕ} {phase last h
 
   -- writer steps 2 to 5: the slot in hand is filled, and its counts cleared
   pub hand-filled : (started′ gone′ : ℕ → ℕ) (phase′ : ℕ) → 2 ≤ phase → phase ≤ 5 → 2 ≤ phase′ → phase′ ≤ 6
-      → (6 ≤ phase′ → gone′ hand ≡ 0) → ((s : ℕ) → s ≢ hand → started′ s ≡ started s) → ((s : ℕ) → s ≢ hand → gone′ s ≡ gone s)
+      → (6 ≤ phase′ → gone′ hand ≡ 0) → ((s : ℕ) → s ≢ hand → started′ s ≡ started s)
+      → ((s : ℕ) → s ≢ hand → gone′ s ≡ gone s)
       → Balance n here counted started′ gone′ bound phase′ last hand old frozen
   hand-filled started′ gone′ phase′ lo hi lo′ hi′ clear same-started same-gone = go (b .away) (b .stage) (b .settled)
     where

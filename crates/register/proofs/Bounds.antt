@@ -1,15 +1,17 @@
 -- Own steps and looks: no operation takes more than its bound, whether it has ended or is under way. Assumes nothing.
-use mathlib.Core.Path.{_≡_, refl, sym}
-use mathlib.Core.Logic.{_≢_, _⊎_, inl, inr}
+use mathlib.Core.Path.{_≡_}
+use mathlib.Core.Logic.{_⊎_, inl, inr}
 use mathlib.Core.Bool.{false}
 use mathlib.Core.List.{List, [], _∷_, _++_}
 use Prim.Native.Nat.{ℕ, suc, _+_, _≤_, _<_}
 use native.Mathlib.Omega.{arith}
 use lib.ListN.{length}
 use Rattle.register.specs.Place.{Record, Memory, apply}
-use Rattle.register.specs.Area.{slot-write-number, phase, last, pos, len, desk-write-number, writer-phase, in-hand, writer-pos, writer-len, read-record}
+use Rattle.register.specs.Area.{slot-write-number, phase, last, pos, len, desk-write-number, writer-phase}
+use Rattle.register.specs.Area.{in-hand, writer-pos, writer-len, read-record}
 use Rattle.register.specs.Steps.{turns, unbinds, binds, takes, copies, finishes}
-use Rattle.register.specs.History.{Event, read-began, went-on, read-ended, Read, Write, History, closed, the-read, the-write, noted}
+use Rattle.register.specs.History.{Event, read-began, went-on, read-ended, Read, Write, History, closed}
+use Rattle.register.specs.History.{the-read, the-write, noted}
 use Rattle.register.specs.Demands.{Each, none, also}
 use Rattle.register.proofs.Tests.{eqb-same, eqb-other, at-each}
 use Rattle.register.proofs.Places.{row-length}
@@ -18,8 +20,9 @@ use Rattle.register.proofs.Moves
 use Rattle.register.proofs.Moves.{Does, got-now, desk-record}
 use Rattle.register.proofs.Counting.{Counted}
 use Rattle.register.proofs.Held.{scan-within}
-use Rattle.register.proofs.Telling.{Told}
-use Rattle.register.proofs.StepCounts.{ReaderSteps, at-rest, first-step, step-on, step-binds, step-sizes, step-copies, ends-exactly}
+use Rattle.register.proofs.Told.{Told}
+use Rattle.register.proofs.StepCounts.{ReaderSteps, at-rest, first-step, step-on, step-binds, step-sizes}
+use Rattle.register.proofs.StepCounts.{step-copies, ends-exactly}
 use Rattle.register.proofs.StepCounts.{WriterSteps, look-finds, look-passes, fill-steps, fill-last, next-step}
 use Rattle.register.proofs.StepCounts.{publish-step, begin-steps, no-steps}
 
@@ -71,7 +74,8 @@ module _ (n : ℕ) (first : Record) where
         record {
           reads = v .reads;
           writes = v .writes;
-          reader = at-each (ReaderAt (apply m (turns r 1)) (noted all-moves h r (read-began))) r (rw (eqb-same r) (first-step))
+          reader = at-each (ReaderAt (apply m (turns r 1)) (noted all-moves h r (read-began))) r
+              (rw (eqb-same r) (first-step))
               (λ q k d. rw (eqb-other q r d) (v .reader q k));
           writer = rw (eqb-other n r (λ z. omega arith)) (v .writer);
         }
@@ -79,7 +83,9 @@ module _ (n : ℕ) (first : Record) where
         record {
           reads = v .reads;
           writes = v .writes;
-          reader = at-each (ReaderAt (apply m (turns r 4)) (noted all-moves h r (went-on 1))) r (rw (eqb-same r) (step-binds (v .reader r l) (inl (omega (arith, v .reader r l .early (omega arith) (omega arith))))))
+          reader = at-each (ReaderAt (apply m (turns r 4)) (noted all-moves h r (went-on 1))) r
+              (rw (eqb-same r)
+              (step-binds (v .reader r l) (inl (omega (arith, v .reader r l .early (omega arith) (omega arith))))))
               (λ q k d. rw (eqb-other q r d) (v .reader q k));
           writer = rw (eqb-other n r (λ z. omega arith)) (v .writer);
         }
@@ -87,7 +93,8 @@ module _ (n : ℕ) (first : Record) where
         record {
           reads = v .reads;
           writes = v .writes;
-          reader = at-each (ReaderAt (apply m (turns r 2)) (noted all-moves h r (went-on 1))) r (rw (eqb-same r) (step-on (v .reader r l) 2 (omega arith) (omega arith) (omega arith)))
+          reader = at-each (ReaderAt (apply m (turns r 2)) (noted all-moves h r (went-on 1))) r
+              (rw (eqb-same r) (step-on (v .reader r l) 2 (omega arith) (omega arith) (omega arith)))
               (λ q k d. rw (eqb-other q r d) (v .reader q k));
           writer = rw (eqb-other n r (λ z. omega arith)) (v .writer);
         }
@@ -95,7 +102,8 @@ module _ (n : ℕ) (first : Record) where
         record {
           reads = v .reads;
           writes = v .writes;
-          reader = at-each (ReaderAt (apply m (unbinds m r)) (noted all-moves h r (went-on 2))) r (rw (eqb-same r) (step-on (v .reader r l) 3 (omega arith) (omega arith) (omega arith)))
+          reader = at-each (ReaderAt (apply m (unbinds m r)) (noted all-moves h r (went-on 2))) r
+              (rw (eqb-same r) (step-on (v .reader r l) 3 (omega arith) (omega arith) (omega arith)))
               (λ q k d. rw (eqb-other q r d) (v .reader q k));
           writer = rw (eqb-other n r (λ z. omega arith)) (v .writer);
         }
@@ -103,7 +111,9 @@ module _ (n : ℕ) (first : Record) where
         record {
           reads = v .reads;
           writes = v .writes;
-          reader = at-each (ReaderAt (apply m (binds m r)) (noted all-moves h r (went-on 3))) r (rw (eqb-same r) (step-binds (v .reader r l) (inr (omega (arith, v .reader r l .early (omega arith) (omega arith))))))
+          reader = at-each (ReaderAt (apply m (binds m r)) (noted all-moves h r (went-on 3))) r
+              (rw (eqb-same r)
+              (step-binds (v .reader r l) (inr (omega (arith, v .reader r l .early (omega arith) (omega arith))))))
               (λ q k d. rw (eqb-other q r d) (v .reader q k));
           writer = rw (eqb-other n r (λ z. omega arith)) (v .writer);
         }
@@ -112,7 +122,10 @@ module _ (n : ℕ) (first : Record) where
           reads = also {x = the-read all-moves h r (got-now m (m (slot-write-number (m (last r)))) [])}
               (ends-exactly (v .reader r l) 0 (omega arith) (v .reader r l .bound e)) (v .reads);
           writes = v .writes;
-          reader = at-each (ReaderAt (apply m (takes m r ++ finishes r)) (noted all-moves h r (read-ended (got-now m (m (slot-write-number (m (last r)))) [])))) r (rw (eqb-same r) (at-rest))
+          reader = at-each
+              (ReaderAt (apply m (takes m r ++ finishes r))
+              (noted all-moves h r (read-ended (got-now m (m (slot-write-number (m (last r)))) [])))) r
+              (rw (eqb-same r) (at-rest))
               (λ q k d. rw (eqb-other q r d) (v .reader q k));
           writer = rw (eqb-other n r (λ z. omega arith)) (v .writer);
         }
@@ -120,7 +133,8 @@ module _ (n : ℕ) (first : Record) where
         record {
           reads = v .reads;
           writes = v .writes;
-          reader = at-each (ReaderAt (apply m (takes m r ++ turns r 5)) (noted all-moves h r (went-on 4))) r (rw (eqb-same r) (step-sizes (v .reader r l) e))
+          reader = at-each (ReaderAt (apply m (takes m r ++ turns r 5)) (noted all-moves h r (went-on 4))) r
+              (rw (eqb-same r) (step-sizes (v .reader r l) e))
               (λ q k d. rw (eqb-other q r d) (v .reader q k));
           writer = rw (eqb-other n r (λ z. omega arith)) (v .writer);
         }
@@ -128,17 +142,23 @@ module _ (n : ℕ) (first : Record) where
         record {
           reads = v .reads;
           writes = v .writes;
-          reader = at-each (ReaderAt (apply m (copies m r)) (noted all-moves h r (went-on 5))) r (rw (eqb-same r) (step-copies (v .reader r l) e))
+          reader = at-each (ReaderAt (apply m (copies m r)) (noted all-moves h r (went-on 5))) r
+              (rw (eqb-same r) (step-copies (v .reader r l) e))
               (λ q k d. rw (eqb-other q r d) (v .reader q k));
           writer = rw (eqb-other n r (λ z. omega arith)) (v .writer);
         }
     keeps-bounds i w (Moves.copies-last r l e x) =
         record {
-          reads = also {x = the-read all-moves h r (got-now m (m (desk-write-number r)) (desk-record (apply m (copies m r)) r))}
+          reads = also
+              {x = the-read all-moves h r (got-now m (m (desk-write-number r)) (desk-record (apply m (copies m r)) r))}
               (rw (row-length (m (len r)) (λ j. apply m (copies m r) (read-record r j)))
               (ends-exactly (v .reader r l) (m (len r)) (omega arith) (v .reader r l .late e))) (v .reads);
           writes = v .writes;
-          reader = at-each (ReaderAt (apply m (copies m r ++ finishes r)) (noted all-moves h r (read-ended (got-now m (m (desk-write-number r)) (desk-record (apply m (copies m r)) r))))) r (rw (eqb-same r) (at-rest))
+          reader = at-each
+              (ReaderAt (apply m (copies m r ++ finishes r))
+              (noted all-moves h r
+              (read-ended (got-now m (m (desk-write-number r)) (desk-record (apply m (copies m r)) r))))) r
+              (rw (eqb-same r) (at-rest))
               (λ q k d. rw (eqb-other q r d) (v .reader q k));
           writer = rw (eqb-other n r (λ z. omega arith)) (v .writer);
         }
@@ -154,14 +174,18 @@ module _ (n : ℕ) (first : Record) where
           reads = v .reads;
           writes = v .writes;
           reader = λ q k. rw (eqb-other q n (λ z. omega arith)) (v .reader q k);
-          writer = rw (eqb-same n) (look-finds (v .writer) 3 e (scan-within n m i e) (λ z. absurd (omega arith)) (λ z. y) (omega arith) (omega arith));
+          writer = rw (eqb-same n)
+              (look-finds (v .writer) 3 e (scan-within n m i e) (λ z. absurd (omega arith)) (λ z. y) (omega arith)
+              (omega arith));
         }
     keeps-bounds i w (Moves.picks-slot e d x y) =
         record {
           reads = v .reads;
           writes = v .writes;
           reader = λ q k. rw (eqb-other q n (λ z. omega arith)) (v .reader q k);
-          writer = rw (eqb-same n) (look-finds (v .writer) 2 e (scan-within n m i e) (λ z. w .writer .unmoved e) (λ z. absurd (omega arith)) (omega arith) (omega arith));
+          writer = rw (eqb-same n)
+              (look-finds (v .writer) 2 e (scan-within n m i e) (λ z. w .writer .unmoved e)
+              (λ z. absurd (omega arith)) (omega arith) (omega arith));
         }
     keeps-bounds i w (Moves.passes-slot e d x) =
         record {
@@ -224,7 +248,8 @@ module _ (n : ℕ) (first : Record) where
     keeps-bounds i w (Moves.write-ends e) =
         record {
           reads = v .reads;
-          writes = steps-closed n all-moves (h .moves) (suc (h .steps n)) first (h .writes) (omega (arith, v .writer .told e)) (v .writes);
+          writes = steps-closed n all-moves (h .moves) (suc (h .steps n)) first (h .writes)
+              (omega (arith, v .writer .told e)) (v .writes);
           reader = λ q k. rw (eqb-other q n (λ z. omega arith)) (v .reader q k);
           writer = rw (eqb-same n) (no-steps);
         }

@@ -3,19 +3,20 @@
 use mathlib.Core.Path.{_≡_, refl, sym, ap, subst, subst₂, _∙_}
 use mathlib.Core.Logic.{_≢_}
 use mathlib.Core.Bool.{Bool, true, false, cond}
-use mathlib.Core.List.{List, [], _∷_}
-use Prim.Native.Nat.{ℕ, suc, _+_, _≤_, _<_}
+use mathlib.Core.List.{List}
+use Prim.Native.Nat.{ℕ, _≤_, _<_}
 use native.Mathlib.Omega.{arith}
 use lib.Dec.{T, eqb→eq, leb→le, lit<}
 use lib.ListN.{length, getD}
-use Rattle.register.specs.Place.{Memory, Store, apply}
-use Rattle.register.specs.Table.{Table, total, view, store}
-use Rattle.register.specs.Area.{form1, range-tests, in-range, readers, capacity, table, area-tests, is-area, memory, undamaged}
+use Rattle.register.specs.Place.{Store, apply}
+use Rattle.register.specs.Table.{total, view, store}
+use Rattle.register.specs.Area.{form1, range-tests, in-range, readers, capacity, table, area-tests, is-area}
+use Rattle.register.specs.Area.{memory, undamaged}
 use Rattle.register.specs.Area.{all, memory-tests}
 use Rattle.register.specs.Steps.{Plan, refuse, accept, Move, mover, plan}
 use Rattle.register.specs.Calls.{Answer, refused, carried-out, answered}
 use Rattle.register.specs.Demands.{Each, none, also, Refused}
-use Rattle.register.proofs.Tests.{passed, true-passes, both, each-passes, if-true}
+use Rattle.register.proofs.Tests.{passed, true-passes, each-passes, if-true}
 use Rattle.register.proofs.Tables.{view-store, length-store, store-untouched}
 use Rattle.register.proofs.Form1.{AllOwn, all-has, head-untouched}
 use Rattle.register.proofs.Moves.{Does, by}
@@ -36,7 +37,13 @@ range-facts n c t = go (each-passes (range-tests n c) t)
   where
     go : Each T (range-tests n c) → InRange n c
     go (also a (also b (also d (also e none)))) =
-        record { some-readers = leb→le _ _ a; few-readers = leb→le _ _ b; some-words = leb→le _ _ d; few-words = leb→le _ _ e }
+        record {
+          some-readers = leb→le _ _ a;
+          few-readers = leb→le _ _ b;
+          some-words = leb→le _ _ d;
+          few-words =
+              leb→le _ _ e;
+        }
 
 pub record AreaFacts (a : List ℕ) : Type 0 where
   pub range : InRange (readers a) (capacity a)
@@ -51,10 +58,21 @@ area-facts a e = go (each-passes (area-tests a) (true-passes _ e))
         record { range = range-facts (readers a) (capacity a) r; exact = eqb→eq _ _ l }
 
 -- an area with the same head and length is one too
-pub same-area : (a b : List ℕ) → length b ≡ length a → ((i : ℕ) → i < 7 → getD b i 0 ≡ getD a i 0) → is-area b ≡ is-area a
+pub same-area : (a b : List ℕ) → length b ≡ length a → ((i : ℕ) → i < 7 → getD b i 0 ≡ getD a i 0) → is-area b
+    ≡ is-area a
 unfolding is-area
 same-area a b l head =
-    rw (l, head 0 (lit< tt), head 1 (lit< tt), head 2 (lit< tt), head 3 (lit< tt), head 4 (lit< tt), head 5 (lit< tt), head 6 (lit< tt))
+    rw (
+      l,
+      head 0 (lit< tt),
+      head 1 (lit< tt),
+      head 2 (lit< tt),
+      head 3 (lit< tt),
+      head 4 (lit< tt),
+      head 5
+          (lit< tt),
+      head 6 (lit< tt),
+    )
 
 -- the plan of a call
 abbrev pub its-plan : List ℕ → Move → Plan
@@ -69,7 +87,8 @@ pub refused-keeps : (a : List ℕ) (x : Move) → answered a x .number ≢ 0 →
 unfolding answered carried-out
 refused-keeps a x =
     if-true P (is-area a) _ (refused 1 a)
-    (λ e. if-true P (undamaged a) _ (refused 2 a) (λ f. by-plan (its-plan a x)) (λ f d. refused-is 2 a)) (λ e d. refused-is 1 a)
+    (λ e. if-true P (undamaged a) _ (refused 2 a) (λ f. by-plan (its-plan a x)) (λ f d. refused-is 2 a))
+    (λ e d. refused-is 1 a)
   where
     P : Answer → Type 0
     P y = y .number ≢ 0 → Refused a y
@@ -141,7 +160,8 @@ module _ {a : List ℕ} {x : Move} (o : Opened a x) where
   facts = area-facts a (o .area)
 
   -- the plan's stores, and the move that they are
-  pub does : Does n c (memory a) (by (mover n x) (seen n (memory a) x (o .ends) (apply (memory a) (o .stores)))) (apply (memory a) (o .stores))
+  pub does : Does n c (memory a) (by (mover n x) (seen n (memory a) x (o .ends) (apply (memory a) (o .stores))))
+      (apply (memory a) (o .stores))
       × AllOwn n c (o .stores)
   does =
       subst (Outcome n c (memory a) (mover n x) (seen n (memory a) x)) (o .chosen)

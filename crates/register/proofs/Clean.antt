@@ -1,14 +1,15 @@
--- Form 1 only: nobody has gone from the current slot, and nobody is about to, so that the counter stays within N. Assumes nothing.
-use mathlib.Core.Path.{_≡_, refl, sym}
+-- Form 1 only: nobody has gone from the current slot, and nobody is about to, so that the counter stays within N.
+-- Assumes nothing.
+use mathlib.Core.Path.{_≡_, sym}
 use mathlib.Core.Logic.{_≢_}
 use mathlib.Core.Bool.{cond}
-use mathlib.Core.List.{List, [], _∷_, _++_}
-use Prim.Native.Nat.{ℕ, suc, _+_, _*_, _≤_, _<_}
+use mathlib.Core.List.{_++_}
+use Prim.Native.Nat.{ℕ, suc, _*_, _<_}
 use native.Mathlib.Omega.{arith}
 use lib.Dec.{eqb}
-use Rattle.register.specs.Place.{Memory, Store, apply}
-use Rattle.register.specs.Area.{current, index, counter, r-end, phase, last, writer-phase, in-hand}
-use Rattle.register.specs.Steps.{turns, unbinds, binds, takes, copies, finishes}
+use Rattle.register.specs.Place.{Memory, apply}
+use Rattle.register.specs.Area.{current, index, r-end, phase, last, in-hand}
+use Rattle.register.specs.Steps.{turns, unbinds, takes, copies, finishes}
 use Rattle.register.specs.History.{Event}
 use Rattle.register.proofs.Tests.{eqb-same, eqb-other, at-each}
 use Rattle.register.proofs.Moves
@@ -63,24 +64,28 @@ module _ (n : ℕ) (big : n < 4294967296) {m : Memory} (i : Counted n m) (v : Cl
       }
     where
       Joined : ℕ → Type 0
-      Joined q = cond (eqb q r) 4 (m (phase q)) ≡ 2 → cond (eqb q r) (index (m current)) (m (last q)) ≢ index (m current)
+      Joined q =
+          cond (eqb q r) 4 (m (phase q)) ≡ 2 → cond (eqb q r) (index (m current)) (m (last q)) ≢ index (m current)
   stays-clean (Moves.takes-none r l e x) =
       record {
         nobody = v .nobody;
-        turned = at-each (Turned (apply m (takes m r ++ finishes r))) r (rw (eqb-same r) (not-leaving (λ z. omega arith)))
+        turned = at-each (Turned (apply m (takes m r ++ finishes r))) r
+            (rw (eqb-same r) (not-leaving (λ z. omega arith)))
             (λ q k d. rw (eqb-other q r d) (v .turned q k));
       }
   stays-clean (Moves.takes-size r l e x) =
       record {
         nobody = v .nobody;
-        turned = at-each (Turned (apply m (takes m r ++ turns r 5))) r (rw (eqb-same r) (not-leaving (λ z. omega arith)))
+        turned = at-each (Turned (apply m (takes m r ++ turns r 5))) r
+            (rw (eqb-same r) (not-leaving (λ z. omega arith)))
             (λ q k d. rw (eqb-other q r d) (v .turned q k));
       }
   stays-clean (Moves.copies-word r l e x) = record { nobody = v .nobody; turned = v .turned }
   stays-clean (Moves.copies-last r l e x) =
       record {
         nobody = v .nobody;
-        turned = at-each (Turned (apply m (copies m r ++ finishes r))) r (rw (eqb-same r) (not-leaving (λ z. omega arith)))
+        turned = at-each (Turned (apply m (copies m r ++ finishes r))) r
+            (rw (eqb-same r) (not-leaving (λ z. omega arith)))
             (λ q k d. rw (eqb-other q r d) (v .turned q k));
       }
   stays-clean (Moves.write-starts u l e more) = record { nobody = v .nobody; turned = v .turned }

@@ -1,21 +1,23 @@
--- The history leaves nothing out: it has as many reads, publications and ended writes as the answers tell. Assumes nothing.
+-- The history leaves nothing out: it has as many reads, publications and ended writes as the answers tell. Assumes
+-- nothing.
 use mathlib.Core.Path.{_≡_, refl, sym, ap, subst, _∙_}
-use mathlib.Core.Logic.{_≢_}
-use mathlib.Core.Bool.{Bool, true, false, cond, _&&_}
+use mathlib.Core.Bool.{Bool, true, false, cond}
 use mathlib.Core.List.{List, [], _∷_}
 use Prim.Native.Nat.{ℕ, suc, _+_, _≤_, _<_}
 use native.Mathlib.Decide.{ℕ-discrete}
 use native.Mathlib.Omega.{arith}
-use lib.Dec.{eqb, ltb, ltb→lt, nltb→le}
+use lib.Dec.{eqb}
 use lib.ListN.{length}
-use Rattle.register.specs.Place.{Record, Memory, apply}
+use Rattle.register.specs.Place.{Memory, apply}
 use Rattle.register.specs.Area.{phase, writer-phase, writes-ended, readers, capacity, memory}
-use Rattle.register.specs.Steps.{refuse, accept, Move, read, write, step}
+use Rattle.register.specs.Steps.{refuse, Move, read, write, step}
 use Rattle.register.specs.Calls.{answered, stepped}
-use Rattle.register.specs.History.{Deed, read-began, write-began, went-on, looked, published, read-ended, write-ended}
+use Rattle.register.specs.History.{Deed, read-began, write-began, went-on, looked, published, read-ended}
+use Rattle.register.specs.History.{write-ended}
 use Rattle.register.specs.History.{got, reader-deed, writer-deed, after, Accepted, none, then}
 use Rattle.register.specs.History.{Event, event, events, History, noted, all-noted, nothing-yet}
-use Rattle.register.specs.Demands.{ended-before, how-many, ends-read, publication, ends-write, Run, beginning, now, told, Complete, LeavesNothingOut}
+use Rattle.register.specs.Demands.{ended-before, how-many, ends-read, publication, ends-write, beginning}
+use Rattle.register.specs.Demands.{now, told, Complete, LeavesNothingOut}
 use Rattle.register.proofs.Tests.{if-less, eqb-equal, eqb-other, ltb-below, ltb-beyond}
 use Rattle.register.proofs.Placed.{length-closed}
 use Rattle.register.proofs.Moves
@@ -64,7 +66,8 @@ reads-noted t h p (published ended) = omega arith
 reads-noted t h p (read-ended g) = omega arith
 reads-noted t h p write-ended = omega arith
 
-writes-noted : (t : ℕ) (h : History) (p : ℕ) (d : Deed) → length (noted t h p d .writes) ≡ publications-of d + length (h .writes)
+writes-noted : (t : ℕ) (h : History) (p : ℕ) (d : Deed) → length (noted t h p d .writes)
+    ≡ publications-of d + length (h .writes)
 writes-noted t h p read-began = omega arith
 writes-noted t h p (write-began v) = omega arith
 writes-noted t h p (went-on k) = omega arith
@@ -96,7 +99,8 @@ module _ (a : List ℕ) where
   by-process : (f : Deed → ℕ) (p j w : ℕ) (test : Bool) → Opened a (step p)
       → f (reader-deed p (memory a (phase p)) (stepped a p)) ≡ j
       → f (writer-deed its-phase (stepped a p)) ≡ w
-      → (p < readers a → cond test 1 0 ≡ j) → (p ≡ readers a → cond test 1 0 ≡ w) → f (event a (step p) .what) ≡ cond test 1 0
+      → (p < readers a → cond test 1 0 ≡ j) → (p ≡ readers a → cond test 1 0 ≡ w) → f (event a (step p) .what)
+      ≡ cond test 1 0
   by-process f p j w test o reader writer at-reader at-writer =
       if-less (λ d. f d ≡ cond test 1 0) p (readers a) (reader-deed p (memory a (phase p)) (stepped a p))
       (writer-deed its-phase (stepped a p)) (λ l. reader ∙ sym (at-reader l))
@@ -110,11 +114,13 @@ module _ (a : List ℕ) where
       (writer (eqb its-phase 6) (stepped a p .ended) (eqb its-phase 1)) (λ l. rw (ltb-below p (readers a) l))
       (λ e. rw (ltb-beyond p (readers a) (omega arith)))
     where
-      reader : (e : Bool) → reads-of (cond e (read-ended (got p (stepped a p))) (went-on (memory a (phase p)))) ≡ cond e 1 0
+      reader : (e : Bool) → reads-of (cond e (read-ended (got p (stepped a p))) (went-on (memory a (phase p))))
+          ≡ cond e 1 0
       reader true = refl
       reader false = refl
 
-      writer : (s e t : Bool) → reads-of (cond s (published e) (cond e write-ended (cond t looked (went-on its-phase)))) ≡ 0
+      writer : (s e t : Bool)
+          → reads-of (cond s (published e) (cond e write-ended (cond t looked (went-on its-phase)))) ≡ 0
       writer true e t = refl
       writer false true t = refl
       writer false false true = refl
@@ -124,11 +130,14 @@ module _ (a : List ℕ) where
   told-publications (read r) o = refl
   told-publications (write v) o = refl
   told-publications (step p) o =
-      by-process publications-of p 0 (cond (eqb its-phase 6) 1 0) (publication a (step p)) o (reader (stepped a p .ended))
-      (writer (eqb its-phase 6) (stepped a p .ended) (eqb its-phase 1)) (λ l. rw (eqb-other p (readers a) (λ e. omega arith)))
+      by-process publications-of p 0 (cond (eqb its-phase 6) 1 0) (publication a (step p)) o
+      (reader (stepped a p .ended))
+      (writer (eqb its-phase 6) (stepped a p .ended) (eqb its-phase 1))
+      (λ l. rw (eqb-other p (readers a) (λ e. omega arith)))
       (λ e. rw (eqb-equal p (readers a) e))
     where
-      reader : (e : Bool) → publications-of (cond e (read-ended (got p (stepped a p))) (went-on (memory a (phase p)))) ≡ 0
+      reader : (e : Bool) → publications-of (cond e (read-ended (got p (stepped a p))) (went-on (memory a (phase p))))
+          ≡ 0
       reader true = refl
       reader false = refl
 
@@ -144,7 +153,8 @@ module _ (a : List ℕ) where
   told-ends (write v) o = refl
   told-ends (step p) o =
       by-process ends-of p 0 (cond (stepped a p .ended) 1 0) (ends-write a (step p)) o (reader (stepped a p .ended))
-      (writer (eqb its-phase 6) (stepped a p .ended) (eqb its-phase 1)) (λ l. rw (eqb-other p (readers a) (λ e. omega arith)))
+      (writer (eqb its-phase 6) (stepped a p .ended) (eqb its-phase 1))
+      (λ l. rw (eqb-other p (readers a) (λ e. omega arith)))
       (λ e. rw (eqb-equal p (readers a) e))
     where
       reader : (e : Bool) → ends-of (cond e (read-ended (got p (stepped a p))) (went-on (memory a (phase p)))) ≡ 0
@@ -160,7 +170,8 @@ module _ (a : List ℕ) where
 
 -- ---- writes ended, as the writer's desk counts them
 
-ended-moved : {n c : ℕ} {m m′ : Memory} {e : Event} → Does n c m e m′ → m′ writes-ended ≡ ends-of (e .what) + m writes-ended
+ended-moved : {n c : ℕ} {m m′ : Memory} {e : Event} → Does n c m e m′ → m′ writes-ended
+    ≡ ends-of (e .what) + m writes-ended
 ended-moved (Moves.read-starts r l e) = omega arith
 ended-moved (Moves.finds-same r l e x) = omega arith
 ended-moved (Moves.finds-other r l e x) = omega arith
@@ -191,7 +202,13 @@ module _ (t : ℕ) where
   reads-counted a (x ∷ l) h (then z rest) =
       let h′ = noted t h (event a x .who) (event a x .what) in
       let one = told-reads a x (opened a x z) in
-      omega (arith, reads-counted (answered a x .area) l h′ rest, reads-noted t h (event a x .who) (event a x .what), one)
+      omega (
+        arith,
+        reads-counted (answered a x .area) l h′ rest,
+        reads-noted t h (event a x .who)
+            (event a x .what),
+        one,
+      )
 
   publications-counted : (a : List ℕ) (l : List Move) (h : History) → Accepted a l
       → length (all-noted t h (events a l) .writes) ≡ how-many publication a l + length (h .writes)

@@ -1,10 +1,12 @@
--- A reader copies a record out of a slot, the writer copies one in: what each has at each phase. It holds of any register:
--- `sizing` is the phase of a reader's size step, behind which it copies; `told` is the phase of a writer that has published.
+-- A reader copies a record out of a slot, the writer copies one in: what each has at each phase. It holds of any
+-- register:
+-- `sizing` is the phase of a reader's size step, behind which it copies; `told` is the phase of a writer that has
+-- published.
 -- Assumes nothing.
-use mathlib.Core.Path.{_≡_, refl, sym, ap, subst, _∙_}
+use mathlib.Core.Path.{_≡_, refl, ap, subst, _∙_}
 use mathlib.Core.Logic.{_≢_}
 use mathlib.Core.List.{List, []}
-use Prim.Native.Nat.{ℕ, suc, _+_, _≤_, _<_}
+use Prim.Native.Nat.{ℕ, suc, _≤_, _<_}
 use native.Mathlib.Decide.{ℕ-discrete}
 use native.Mathlib.Omega.{arith}
 use lib.ListN.{length}
@@ -23,24 +25,28 @@ one-more {pos} {mine} {mine′} {words} had new kept j l = go (ℕ-discrete j po
     go (yes e) = rw e new
     go (no d) = kept j d ∙ had j (omega arith)
 
--- ---- a reader that began at `begin`: its phase, len, pos, write number and words; size, write number and words of its slot
+-- ---- a reader that began at `begin`: its phase, len, pos, write number and words; size, write number and words of
+-- its slot
 
 pub record Reading (sizing : ℕ) (first : Record) (begin now : ℕ) (writes : List Write) (phase len pos number : ℕ)
     (mine : ℕ → ℕ) (size its-number : ℕ) (words : ℕ → ℕ) : Type 0 where
   -- from its size step on the slot holds, whole, a write that it may show
   pub bound : sizing ≤ phase → Where first begin now (row size words) its-number writes
   -- and while it copies it has the slot's words up to pos
-  pub copied : phase ≡ suc sizing → (len ≡ size) × (number ≡ its-number) × (pos < len) × ((j : ℕ) → j < pos → mine j ≡ words j)
+  pub copied : phase ≡ suc sizing → (len ≡ size) × (number ≡ its-number) × (pos < len)
+      × ((j : ℕ) → j < pos → mine j ≡ words j)
 
 module _ {sizing : ℕ} {first : Record} where
   -- the clock goes on
   pub reading-later : {begin now phase len pos number size its-number : ℕ} {writes : List Write} {mine words : ℕ → ℕ}
       → Reading sizing first begin now writes phase len pos number mine size its-number words
       → Reading sizing first begin (suc now) writes phase len pos number mine size its-number words
-  reading-later {now = now} v = record { bound = λ x. where-later (suc now) (omega arith) (v .bound x); copied = v .copied }
+  reading-later {now = now} v =
+      record { bound = λ x. where-later (suc now) (omega arith) (v .bound x); copied = v .copied }
 
   -- before its size step nothing is asked
-  pub not-yet : {begin now len pos number size its-number : ℕ} {writes : List Write} {mine words : ℕ → ℕ} (phase : ℕ) → phase < sizing
+  pub not-yet : {begin now len pos number size its-number : ℕ} {writes : List Write} {mine words : ℕ → ℕ} (phase : ℕ)
+      → phase < sizing
       → Reading sizing first begin now writes phase len pos number mine size its-number words
   not-yet phase l = record { bound = λ x. absurd (omega arith); copied = λ x. absurd (omega arith) }
 
@@ -90,11 +96,12 @@ module _ {sizing : ℕ} {first : Record} where
         row-same len mine′ words (λ j k. one-more had new kept j (omega arith)) ∙ ap (λ k. row k words) a in
         rw (same, b) (v .bound (omega arith))
 
--- ---- the writer, the record it was given and the number k of published writes: its phase, len, pos, writes ended and words;
+-- ---- the writer, the record it was given and the number k of published writes: its phase, len, pos, writes ended
+-- and words;
 -- size, write number and words of the slot in hand
 
-pub record Writing (told : ℕ) (given : Record) (k phase len pos ended : ℕ) (mine : ℕ → ℕ) (size number : ℕ) (words : ℕ → ℕ)
-    : Type 0 where
+pub record Writing (told : ℕ) (given : Record) (k phase len pos ended : ℕ) (mine : ℕ → ℕ) (size number : ℕ)
+    (words : ℕ → ℕ) : Type 0 where
   pub counted : phase ≢ told → ended ≡ k
   pub published : phase ≡ told → suc ended ≡ k
   pub has : 1 ≤ phase → (len ≡ length given) × (row len mine ≡ given)
@@ -106,7 +113,8 @@ pub record Writing (told : ℕ) (given : Record) (k phase len pos ended : ℕ) (
 module _ {told : ℕ} {given : Record} {k phase len pos ended : ℕ} {mine : ℕ → ℕ} {size number : ℕ} {words : ℕ → ℕ}
     (v : Writing told given k phase len pos ended mine size number words) (high : 4 < told) where
   -- what no later phase asks any more
-  pub write-begins : {size′ number′ : ℕ} {words′ : ℕ → ℕ} (u : Record) (mine′ : ℕ → ℕ) → phase ≡ 0 → row (length u) mine′ ≡ u
+  pub write-begins : {size′ number′ : ℕ} {words′ : ℕ → ℕ} (u : Record) (mine′ : ℕ → ℕ) → phase ≡ 0
+      → row (length u) mine′ ≡ u
       → Writing told u k 1 (length u) 0 ended mine′ size′ number′ words′
   write-begins u mine′ e d =
       record {
@@ -133,7 +141,8 @@ module _ {told : ℕ} {given : Record} {k phase len pos ended : ℕ} {mine : ℕ
       }
 
   -- from phase 3 on, once all words are there
-  pub words-there : {size′ number′ : ℕ} (phase′ pos′ : ℕ) (words′ : ℕ → ℕ) → 1 ≤ phase → phase < told → 3 ≤ phase′ → phase′ < told
+  pub words-there : {size′ number′ : ℕ} (phase′ pos′ : ℕ) (words′ : ℕ → ℕ) → 1 ≤ phase → phase < told → 3 ≤ phase′
+      → phase′ < told
       → ((j : ℕ) → j < len → words′ j ≡ mine j) → (4 ≤ phase′ → (size′ ≡ len) × (number′ ≡ suc ended))
       → Writing told given k phase′ len pos′ ended mine size′ number′ words′
   words-there phase′ pos′ words′ lo hi lo′ hi′ there its-size =
@@ -162,7 +171,8 @@ module _ {told : ℕ} {given : Record} {k phase len pos ended : ℕ} {mine : ℕ
       }
 
   -- one word filled in
-  pub fill-goes-on : (words′ : ℕ → ℕ) → phase ≡ 2 → suc pos ≢ len → words′ pos ≡ mine pos → ((j : ℕ) → j ≢ pos → words′ j ≡ words j)
+  pub fill-goes-on : (words′ : ℕ → ℕ) → phase ≡ 2 → suc pos ≢ len → words′ pos ≡ mine pos
+      → ((j : ℕ) → j ≢ pos → words′ j ≡ words j)
       → Writing told given k 2 len (suc pos) ended mine size number words′
   fill-goes-on words′ e d new kept =
       record {
@@ -175,7 +185,8 @@ module _ {told : ℕ} {given : Record} {k phase len pos ended : ℕ} {mine : ℕ
         sized = λ y z. absurd (omega arith);
       }
 
-  pub fill-ends : (words′ : ℕ → ℕ) → phase ≡ 2 → suc pos ≡ len → words′ pos ≡ mine pos → ((j : ℕ) → j ≢ pos → words′ j ≡ words j)
+  pub fill-ends : (words′ : ℕ → ℕ) → phase ≡ 2 → suc pos ≡ len → words′ pos ≡ mine pos
+      → ((j : ℕ) → j ≢ pos → words′ j ≡ words j)
       → Writing told given k 3 len (suc pos) ended mine size number words′
   fill-ends words′ e d new kept =
       words-there 3 (suc pos) words′ (omega arith) (omega arith) (omega arith) (omega arith)
@@ -185,7 +196,8 @@ module _ {told : ℕ} {given : Record} {k phase len pos ended : ℕ} {mine : ℕ
   pub published-whole : suc phase ≡ told → (row size words ≡ given) × (number ≡ suc k)
   published-whole e =
       let (s, w) = v .sized (omega arith) (omega arith) in (
-        ap (λ x. row x words) s ∙ row-same len words mine (v .filled (omega arith) (omega arith)) ∙ v .has (omega arith) .1,
+        ap (λ x. row x words) s ∙ row-same len words mine (v .filled (omega arith) (omega arith))
+            ∙ v .has (omega arith) .1,
         w ∙ ap suc (v .counted (λ z. omega arith)),
       )
 

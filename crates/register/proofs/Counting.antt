@@ -2,20 +2,23 @@
 use mathlib.Core.Path.{_≡_, refl, sym, subst, subst₂, _∙_, fun-ext}
 use mathlib.Core.Logic.{_≢_}
 use mathlib.Core.Bool.{Bool, true, false, cond}
-use mathlib.Core.List.{List, [], _∷_, _++_}
+use mathlib.Core.List.{_++_}
 use Prim.Native.Nat.{ℕ, zero, suc, _+_, _*_, _≤_, _<_}
 use native.Mathlib.Decide.{ℕ-discrete}
 use native.Mathlib.Omega.{arith}
 use lib.Dec.{eqb}
 use Rattle.register.specs.Place.{Memory, apply}
-use Rattle.register.specs.Area.{current, index, counter, r-start, r-end, phase, last, writer-phase, last-slot, in-hand, old-word}
-use Rattle.register.specs.Steps.{turns, unbinds, binds, takes, copies, finishes, clears-start, clears-end, publishes, freezes}
+use Rattle.register.specs.Area.{current, index, counter, r-start, r-end, phase, last, writer-phase, last-slot}
+use Rattle.register.specs.Area.{in-hand, old-word}
+use Rattle.register.specs.Steps.{turns, unbinds, binds, takes, copies, finishes, clears-start, clears-end}
+use Rattle.register.specs.Steps.{publishes, freezes}
 use Rattle.register.specs.History.{Event}
 use Rattle.register.proofs.Tests.{hit, miss, eqb-same, eqb-other, same-either}
-use Rattle.register.proofs.Sums.{sum, sum-one, sum-same, sum-at-most, sum-member, sum-zero, sum-ones, sum-swap}
+use Rattle.register.proofs.Sums.{sum, sum-one, sum-same, sum-at-most, sum-zero, sum-ones, sum-swap}
 use Rattle.register.proofs.Moves
 use Rattle.register.proofs.Moves.{Does}
-use Rattle.register.proofs.Balance.{Balance, one-leaves, one-joins, write-begins, hand-free, hand-held, hand-filled}
+use Rattle.register.proofs.Balance.{Balance, one-leaves, one-joins, write-begins, hand-free, hand-held}
+use Rattle.register.proofs.Balance.{hand-filled}
 use Rattle.register.proofs.Balance.{hand-published, old-frozen}
 
 -- 1 where a reader in phase p whose last is l is bound to slot s: between its steps 2 and 3 it is bound nowhere
@@ -77,7 +80,8 @@ module _ (n : ℕ) where
 
   -- reader r moved to phase p, and is bound as before
   quiet : (m m′ : Memory) (r p : ℕ) → r < n → m (phase r) ≢ 3 → p ≢ 3
-      → ((q : ℕ) → m′ (phase q) ≡ cond (eqb q r) p (m (phase q))) → ((q : ℕ) → m′ (last q) ≡ m (last q)) → bound n m′ ≡ bound n m
+      → ((q : ℕ) → m′ (phase q) ≡ cond (eqb q r) p (m (phase q))) → ((q : ℕ) → m′ (last q) ≡ m (last q)) → bound n m′
+      ≡ bound n m
   quiet m m′ r p h d d′ ep el =
       fun-ext
       (λ s. omega (arith, moved m m′ r h (λ q x. ep q ∙ miss q r x p (m (phase q))) (λ q x. el q) s, alike s))
@@ -98,7 +102,8 @@ module _ (n : ℕ) where
     pub counts : Counts m (bound n m)
 
   -- a reader that stays bound as it was
-  stays : (m : Memory) (m′ : Memory) → ((r : ℕ) → r < n → m′ (last r) < n + 2) → bound n m′ ≡ bound n m → Counts m′ (bound n m)
+  stays : (m : Memory) (m′ : Memory) → ((r : ℕ) → r < n → m′ (last r) < n + 2) → bound n m′ ≡ bound n m
+      → Counts m′ (bound n m)
       → Counted m′
   stays m m′ lasts same counts = record { lasts = lasts; counts = subst (Counts m′) (sym same) counts }
 
@@ -161,9 +166,11 @@ module _ (n : ℕ) where
       here : m′ (last r) ≡ i
       here = hit r (index (suc (m current))) (m (last r)) ∙ same
 
-      change : (s : ℕ) → bound n m′ s + is-bound s (m (phase r)) (m (last r)) ≡ bound n m s + is-bound s (m′ (phase r)) (m′ (last r))
+      change : (s : ℕ) → bound n m′ s + is-bound s (m (phase r)) (m (last r))
+          ≡ bound n m s + is-bound s (m′ (phase r)) (m′ (last r))
       change s =
-          moved m m′ r h (λ q d. miss q r d 4 (m (phase q))) (λ q d. miss q r d (index (suc (m current))) (m (last q))) s
+          moved m m′ r h (λ q d. miss q r d 4 (m (phase q)))
+          (λ q d. miss q r d (index (suc (m current))) (m (last q))) s
 
       gone : (s : ℕ) → is-bound s (m (phase r)) (m (last r)) ≡ 0
       gone s = unbound s (m (phase r)) (m (last r)) e
@@ -174,10 +181,12 @@ module _ (n : ℕ) where
 
   -- writer steps 2 and 3
   filling-on : (m : Memory) (k : ℕ) → 2 ≤ m writer-phase → m writer-phase ≤ 5 → 2 ≤ k → k ≤ 5 → Counts m (bound n m)
-      → Balance n (index (m current)) (counter (m current)) (λ s. m (r-start s)) (λ s. m (r-end s)) (bound n m) k (m last-slot)
+      → Balance n (index (m current)) (counter (m current)) (λ s. m (r-start s)) (λ s. m (r-end s)) (bound n m) k
+      (m last-slot)
       (m in-hand) (index (m old-word)) (counter (m old-word))
   filling-on m k lo hi lo′ hi′ b =
-      hand-filled b (λ s. m (r-start s)) (λ s. m (r-end s)) k lo hi lo′ (omega arith) (λ y. absurd (omega arith)) (λ s d. refl)
+      hand-filled b (λ s. m (r-start s)) (λ s. m (r-end s)) k lo hi lo′ (omega arith) (λ y. absurd (omega arith))
+      (λ s d. refl)
       (λ s d. refl)
 
   -- writer steps 4 and 5
@@ -209,7 +218,8 @@ module _ (n : ℕ) where
       record {
         lasts = v .lasts;
         counts = old-frozen (v .counts) (λ s. apply m (freezes m) (r-start s)) e
-            (λ s d. miss s old d (counter (m old-word)) (m (r-start s))) (hit old (counter (m old-word)) (m (r-start old)));
+            (λ s d. miss s old d (counter (m old-word)) (m (r-start s)))
+            (hit old (counter (m old-word)) (m (r-start old)));
       }
 
   -- writer step 6
@@ -251,11 +261,23 @@ module _ (n : ℕ) where
       record { lasts = v .lasts; counts = hand-free (v .counts) 2 (omega arith) (omega arith) e d x }
   keeps-counts big v (Moves.passes-slot e d x) = record { lasts = v .lasts; counts = hand-held (v .counts) e d .0 }
   keeps-counts big {m = m} v (Moves.fills-word e x) =
-      record { lasts = v .lasts; counts = filling-on m 2 (omega arith) (omega arith) (omega arith) (omega arith) (v .counts) }
+      record {
+        lasts = v .lasts;
+        counts = filling-on m 2 (omega arith) (omega arith) (omega arith) (omega arith)
+            (v .counts);
+      }
   keeps-counts big {m = m} v (Moves.fills-last e x) =
-      record { lasts = v .lasts; counts = filling-on m 3 (omega arith) (omega arith) (omega arith) (omega arith) (v .counts) }
+      record {
+        lasts = v .lasts;
+        counts = filling-on m 3 (omega arith) (omega arith) (omega arith) (omega arith)
+            (v .counts);
+      }
   keeps-counts big {m = m} v (Moves.sets-size e) =
-      record { lasts = v .lasts; counts = filling-on m 4 (omega arith) (omega arith) (omega arith) (omega arith) (v .counts) }
+      record {
+        lasts = v .lasts;
+        counts = filling-on m 4 (omega arith) (omega arith) (omega arith) (omega arith)
+            (v .counts);
+      }
   keeps-counts big {m = m} v (Moves.clears-first e) = clearing m e v
   keeps-counts big {m = m} v (Moves.clears-second e) = cleared m e v
   keeps-counts big {m = m} v (Moves.exchanges e) = record { lasts = v .lasts; counts = publishing m e (v .counts) }

@@ -1,21 +1,20 @@
 -- When writes ended, and the age of each finished read. Assumes nothing.
 use mathlib.Core.Path.{_≡_, refl, sym, ap, _∙_}
 use mathlib.Core.Logic.{_≢_}
-use mathlib.Core.Bool.{Bool, true, false, cond}
+use mathlib.Core.Bool.{true, false}
 use mathlib.Core.List.{List, [], _∷_}
-use Prim.Native.Nat.{ℕ, suc, _+_, _-_, _≤_, _<_}
+use Prim.Native.Nat.{ℕ, suc, _-_, _≤_, _<_}
 use native.Mathlib.Omega.{arith}
-use lib.Dec.{ltb}
 use lib.ListN.{length}
 use Rattle.register.specs.Place.{Record, Memory}
-use Rattle.register.specs.Area.{slot-write-number, last, desk-write-number, writer-phase, writes-ended}
-use Rattle.register.specs.History.{Event, Got, Read, Write, History, closed, noted, the-read, the-write}
+use Rattle.register.specs.Area.{slot-write-number, last, desk-write-number, writer-phase}
+use Rattle.register.specs.History.{Event, Read, Write, History, closed, noted, the-read, the-write}
 use Rattle.register.specs.Demands.{Each, none, also, ended-before}
 use Rattle.register.proofs.Tests.{ltb-below, ltb-beyond, each-follows}
 use Rattle.register.proofs.Moves
 use Rattle.register.proofs.Moves.{Does, got-now}
 use Rattle.register.proofs.Copying.{Writing}
-use Rattle.register.proofs.Telling.{Told, Writes}
+use Rattle.register.proofs.Told.{Told}
 
 -- all writes have ended, but the newest while the writer is in phase 7
 pub data Ends (total now phase : ℕ) : List Write → Type 0 where
@@ -34,17 +33,20 @@ pub record Aged (now : ℕ) (writes : List Write) (x : Read) : Type 0 where
 past-later : (now : ℕ) (writes : List Write) → Each (λ w. w .end < now) writes → Each (λ w. w .end < suc now) writes
 past-later now writes = each-follows (λ w b. omega arith)
 
-all-counted : (now : ℕ) (writes : List Write) → Each (λ w. w .end < now) writes → ended-before now writes ≡ length writes
+all-counted : (now : ℕ) (writes : List Write) → Each (λ w. w .end < now) writes → ended-before now writes
+    ≡ length writes
 all-counted now [] none = refl
 all-counted now (w ∷ writes) (also b rest) =
     rw (ltb-below (w .end) now b) (omega (arith, all-counted now writes rest))
 
 -- a write that ends at t or later is not counted before t
-not-counted : (t : ℕ) (w : Write) (writes : List Write) → t ≤ w .end → ended-before t (w ∷ writes) ≡ ended-before t writes
+not-counted : (t : ℕ) (w : Write) (writes : List Write) → t ≤ w .end → ended-before t (w ∷ writes)
+    ≡ ended-before t writes
 not-counted t w writes l = rw (ltb-beyond (w .end) t l) (omega arith)
 
 -- writes ended, as the writer's desk has it
-pub ended-now : {total now phase : ℕ} {writes : List Write} {given : Record} {len pos ended size number : ℕ} {mine words : ℕ → ℕ}
+pub ended-now : {total now phase : ℕ} {writes : List Write} {given : Record} {len pos ended size number : ℕ}
+    {mine words : ℕ → ℕ}
     → now ≤ total → Ends total now phase writes
     → Writing 7 given (length writes) phase len pos ended mine size number words → ended ≡ ended-before now writes
 ended-now {now = now} {writes = writes} l (all-ended d past) v = v .counted d ∙ sym (all-counted now writes past)
@@ -55,7 +57,8 @@ ended-now {now = now} l (one-open {w = w} {writes = writes} e still past) v =
 
 -- ---- one move later
 
-ends-later : {total now phase : ℕ} {writes : List Write} → Ends total now phase writes → Ends total (suc now) phase writes
+ends-later : {total now phase : ℕ} {writes : List Write} → Ends total now phase writes
+    → Ends total (suc now) phase writes
 ends-later {now = now} {writes = writes} (all-ended d past) = all-ended d (past-later now writes past)
 ends-later {now = now} (one-open {writes = writes} e still past) = one-open e still (past-later now writes past)
 
@@ -90,7 +93,8 @@ module _ (n : ℕ) (first : Record) (total : ℕ) {m : Memory} {h : History} (w 
   same-ages = ages-kept (h .moves) (h .writes) (h .writes) (h .reads) (λ j l. refl) (v .ages)
 
   -- a read that ends now with write number k
-  one-age : (r k : ℕ) (u : Record) → Each (Aged (suc (h .moves)) (h .writes)) (the-read total h r (got-now m k u) ∷ h .reads)
+  one-age : (r k : ℕ) (u : Record)
+      → Each (Aged (suc (h .moves)) (h .writes)) (the-read total h r (got-now m k u) ∷ h .reads)
   one-age r k u =
       also {x = the-read total h r (got-now m k u)}
       (record {
@@ -104,7 +108,8 @@ module _ (n : ℕ) (first : Record) (total : ℕ) {m : Memory} {h : History} (w 
   writer-on {m′ = m′} h′ em ew er d d′ =
       record { ends = rw (em, ew) (all-ended d′ (all-past d (v .ends))); ages = rw (em, ew, er) same-ages }
 
-  closing : {now : ℕ} {writes : List Write} (k : ℕ) → now < total → m writer-phase ≡ 7 → Ends total now (m writer-phase) writes
+  closing : {now : ℕ} {writes : List Write} (k : ℕ) → now < total → m writer-phase ≡ 7
+      → Ends total now (m writer-phase) writes
       → Ends total (suc now) 0 (closed now k writes)
       × ((j : ℕ) → j < now → ended-before j (closed now k writes) ≡ ended-before j writes)
   closing k l e (all-ended d past) = absurd (d e)
@@ -113,7 +118,8 @@ module _ (n : ℕ) (first : Record) (total : ℕ) {m : Memory} {h : History} (w 
     λ j b. rw (ltb-beyond now j (omega arith), ltb-beyond (x .end) j (omega arith)),
   )
 
-  pub keeps-dates : {c : ℕ} {m′ : Memory} {e : Event} → Does n c m e m′ → Dated total m′ (noted total h (e .who) (e .what))
+  pub keeps-dates : {c : ℕ} {m′ : Memory} {e : Event} → Does n c m e m′
+      → Dated total m′ (noted total h (e .who) (e .what))
   keeps-dates (Moves.read-starts r l e) = record { ends = ends-later (v .ends); ages = same-ages }
   keeps-dates (Moves.finds-same r l e x) = record { ends = ends-later (v .ends); ages = same-ages }
   keeps-dates (Moves.finds-other r l e x) = record { ends = ends-later (v .ends); ages = same-ages }
@@ -123,7 +129,8 @@ module _ (n : ℕ) (first : Record) (total : ℕ) {m : Memory} {h : History} (w 
       record { ends = ends-later (v .ends); ages = one-age r (m (slot-write-number (m (last r)))) _ }
   keeps-dates (Moves.takes-size r l e x) = record { ends = ends-later (v .ends); ages = same-ages }
   keeps-dates (Moves.copies-word r l e x) = record { ends = ends-later (v .ends); ages = same-ages }
-  keeps-dates (Moves.copies-last r l e x) = record { ends = ends-later (v .ends); ages = one-age r (m (desk-write-number r)) _ }
+  keeps-dates (Moves.copies-last r l e x) =
+      record { ends = ends-later (v .ends); ages = one-age r (m (desk-write-number r)) _ }
   keeps-dates (Moves.write-starts u l e more) = writer-on _ refl refl refl (λ z. omega arith) (λ z. omega arith)
   keeps-dates (Moves.picks-empty e d x y) = writer-on _ refl refl refl (λ z. omega arith) (λ z. omega arith)
   keeps-dates (Moves.picks-slot e d x y) = writer-on _ refl refl refl (λ z. omega arith) (λ z. omega arith)
@@ -144,5 +151,6 @@ module _ (n : ℕ) (first : Record) (total : ℕ) {m : Memory} {h : History} (w 
       let (ends, same) = closing (suc (h .steps n)) t e (v .ends) in
       record {
         ends = ends;
-        ages = ages-kept (h .moves) (h .writes) (closed (h .moves) (suc (h .steps n)) (h .writes)) (h .reads) same (v .ages);
+        ages = ages-kept (h .moves) (h .writes) (closed (h .moves) (suc (h .steps n)) (h .writes)) (h .reads) same
+            (v .ages);
       }

@@ -2,20 +2,20 @@
 -- Assumes nothing.
 use mathlib.Core.Path.{_≡_, refl, ap, subst₂, _∙_}
 use mathlib.Core.Logic.{_≢_}
-use mathlib.Core.Bool.{Bool, true, false, cond}
+use mathlib.Core.Bool.{true, cond}
 use mathlib.Core.List.{List}
-use Prim.Native.Nat.{ℕ, suc, _+_, _≤_, _<_}
+use Prim.Native.Nat.{ℕ, _+_, _≤_, _<_}
 use native.Mathlib.Decide.{ℕ-discrete}
 use native.Mathlib.Omega.{arith}
 use lib.Dec.{eqb}
-use lib.ListN.{length}
-use Rattle.register.specs.Place.{Record, Memory}
-use Rattle.register.specs.Area.{phase, len, writer-phase, writer-len, readers, capacity, is-area, memory, undamaged}
+use Rattle.register.specs.Place.{Record}
+use Rattle.register.specs.Area.{phase, len, writer-phase, writer-len, readers, is-area, memory}
+use Rattle.register.specs.Area.{undamaged}
 use Rattle.register.specs.Steps
 use Rattle.register.specs.Steps.{Plan, refuse, accept, read-plan, write-plan, Move, read, write, step, mover}
 use Rattle.register.specs.Calls.{carried-out, answered}
 use Rattle.register.specs.History.{History}
-use Rattle.register.specs.Demands.{Run, now, told, NeverStuck, UnderWay, Ends}
+use Rattle.register.specs.Demands.{told, NeverStuck, Ends}
 use Rattle.register.proofs.Tests.{eqb-equal, eqb-other}
 use Rattle.register.proofs.Held.{scan-within}
 use Rattle.register.proofs.Going.{number-of, read-begin-number, write-begin-number, step-number}
@@ -25,7 +25,8 @@ use Rattle.register.proofs.Called.{its-plan, whole-area}
 use Rattle.register.proofs.Promise.{Good, run-ends-good}
 
 -- on an undamaged area a call gives the number of its plan
-plan-number : (a : List ℕ) (x : Move) → is-area a ≡ true → undamaged a ≡ true → answered a x .number ≡ number-of (its-plan a x)
+plan-number : (a : List ℕ) (x : Move) → is-area a ≡ true → undamaged a ≡ true → answered a x .number
+    ≡ number-of (its-plan a x)
 unfolding answered carried-out
 plan-number a x ea es = rw (ea, es) (go (its-plan a x))
   where

@@ -1,13 +1,14 @@
 -- The places of form 1: each name of document 01 is a place that the area has, and no step stores to words 0 to 6.
 -- Assumes nothing.
-use mathlib.Core.Path.{_≡_, refl}
+use mathlib.Core.Path.{refl}
 use mathlib.Core.List.{List, [], _∷_, _++_}
 use Prim.Native.Nat.{ℕ, suc, _+_, _≤_, _<_}
 use native.Mathlib.Omega.{arith}
 use lib.ListN.{length}
 use Rattle.register.specs.Place.{Record, Place, Store, copied}
 use Rattle.register.specs.Table.{address}
-use Rattle.register.specs.Area.{form1, header, current, slot-field, contents, desk-field, read-record, writer-field, write-record}
+use Rattle.register.specs.Area.{form1, header, current, slot-field, contents, desk-field, read-record}
+use Rattle.register.specs.Area.{writer-field, write-record}
 use Rattle.register.specs.Demands.{Each, none, also, Untouched}
 use Rattle.register.proofs.Tests.{each-follows}
 use Rattle.register.proofs.Tables.{Has, AllHas}
@@ -41,7 +42,14 @@ module _ (n c : ℕ) where
   pub own-slot : (f s : ℕ) → f < 4 → s < n + 2 → Own (slot-field f s)
   own-slot f s l k =
       record {
-        has = record { part = omega arith; row = k; field = omega arith; many = λ e. absurd (omega arith); single = λ d. refl };
+        has = record {
+          part =
+              omega arith;
+          row = k;
+          field = omega arith;
+          many = λ e. absurd (omega arith);
+          single = λ d. refl;
+        };
         behind = omega arith;
       }
 
@@ -55,7 +63,14 @@ module _ (n c : ℕ) where
   pub own-desk : (f r : ℕ) → f < 6 → r < n → Own (desk-field f r)
   own-desk f r l k =
       record {
-        has = record { part = omega arith; row = k; field = omega arith; many = λ e. absurd (omega arith); single = λ d. refl };
+        has = record {
+          part =
+              omega arith;
+          row = k;
+          field = omega arith;
+          many = λ e. absurd (omega arith);
+          single = λ d. refl;
+        };
         behind = omega arith;
       }
 
@@ -82,11 +97,19 @@ module _ (n c : ℕ) where
   pub own-write-record : (i : ℕ) → i < c → Own (write-record i)
   own-write-record i l =
       record {
-        has = record { part = omega arith; row = omega arith; field = omega arith; many = λ e. l; single = λ d. absurd (d refl) };
+        has = record {
+          part =
+              omega arith;
+          row = omega arith;
+          field = omega arith;
+          many = λ e. l;
+          single = λ d. absurd (d refl);
+        };
         behind = omega arith;
       }
 
   -- a record that is copied into a row
-  pub own-copied : (at : ℕ → Place) → ((i : ℕ) → i < c → Own (at i)) → (v : Record) (i : ℕ) → i + length v ≤ c → AllOwn (copied at i v)
+  pub own-copied : (at : ℕ → Place) → ((i : ℕ) → i < c → Own (at i)) → (v : Record) (i : ℕ) → i + length v ≤ c
+      → AllOwn (copied at i v)
   own-copied at h [] i l = none
   own-copied at h (x ∷ v) i l = also (h i (omega arith)) (own-copied at h v (suc i) (omega arith))

@@ -1,15 +1,14 @@
 -- On an area that the counts describe nobody busy is refused: what each plan's number is. Assumes nothing.
-use mathlib.Core.Path.{_≡_, refl, sym}
+use mathlib.Core.Path.{_≡_, refl}
 use mathlib.Core.Logic.{_≢_}
 use mathlib.Core.Bool.{Bool, true, false, cond}
-use mathlib.Core.List.{List, [], _∷_, _++_}
-use Prim.Native.Nat.{ℕ, zero, suc, _+_, _≤_, _<_}
+use Prim.Native.Nat.{ℕ, suc, _≤_, _<_}
 use native.Mathlib.Omega.{arith}
 use lib.Dec.{eqb, leb, ltb}
 use lib.ListN.{length}
 use Rattle.register.specs.Place.{Record, Memory}
 use Rattle.register.specs.Area.{current, counter, r-start, r-end, size, limit, most-writes, phase, last, pos, len}
-use Rattle.register.specs.Area.{writer-phase, last-slot, in-hand, writes-ended, old-word}
+use Rattle.register.specs.Area.{writer-phase, in-hand, writes-ended}
 use Rattle.register.specs.Steps
 use Rattle.register.specs.Steps.{Plan, refuse, accept, read-plan, write-plan, reader-step, writer-step, free}
 use Rattle.register.proofs.Tests.{if-true, if-equal, if-less, end, next, at-number, eqb-equal, eqb-other}
@@ -29,7 +28,8 @@ module _ (n c : ℕ) (m : Memory) where
   pub read-begin-number : (r : ℕ) → number-of (read-plan n m r) ≡ cond (ltb r n) (cond (eqb (m (phase r)) 0) 0 5) 3
   read-begin-number r = go (ltb r n) (eqb (m (phase r)) 0)
     where
-      go : (a b : Bool) → number-of (cond a (cond b (accept (Steps.turns r 1) false) (refuse 5)) (refuse 3)) ≡ cond a (cond b 0 5) 3
+      go : (a b : Bool) → number-of (cond a (cond b (accept (Steps.turns r 1) false) (refuse 5)) (refuse 3))
+          ≡ cond a (cond b 0 5) 3
       go true true = refl
       go true false = refl
       go false b = refl
@@ -59,14 +59,19 @@ module _ (n c : ℕ) (m : Memory) where
         (next (λ e. busy (λ z. omega arith))
         (next
         (λ e.
-        if-less P (m (r-end (m (last r)))) (limit n) (accept (Steps.unbinds m r) false) (refuse 2) (λ x. busy (λ z. omega arith))
-        (λ x. absurd (omega (arith, end-room n m i r l e (k .turned r l e) (start-few r l) (w .writer .before .count)))))
+        if-less P (m (r-end (m (last r)))) (limit n) (accept (Steps.unbinds m r) false) (refuse 2)
+        (λ x. busy (λ z. omega arith))
+        (λ x. absurd
+        (omega (arith, end-room n m i r l e (k .turned r l e) (start-few r l) (w .writer .before .count)))))
         (next
         (λ e.
-        if-less P (counter (m current)) (limit n) (accept (Steps.binds m r) false) (refuse 2) (λ x. busy (λ z. omega arith))
+        if-less P (counter (m current)) (limit n) (accept (Steps.binds m r) false) (refuse 2)
+        (λ x. busy (λ z. omega arith))
         (λ x. absurd (omega (arith, counter-room n m i (k .nobody) r l e))))
-        (next (λ e. if-equal P (m (size (m (last r)))) 0 _ _ (λ x. busy (λ z. omega arith)) (λ x. busy (λ z. omega arith)))
-        (next (λ e. if-equal P (suc (m (pos r))) (m (len r)) _ _ (λ x. busy (λ z. omega arith)) (λ x. busy (λ z. omega arith))) end))))))
+        (next (λ e. if-equal P (m (size (m (last r)))) 0 _ _ (λ x. busy (λ z. omega arith))
+        (λ x. busy (λ z. omega arith)))
+        (next (λ e. if-equal P (suc (m (pos r))) (m (len r)) _ _ (λ x. busy (λ z. omega arith))
+        (λ x. busy (λ z. omega arith))) end))))))
         (λ h. absurd (omega (arith, w .desk r l .phases)))
       where
         P : Plan → Type 0
@@ -113,7 +118,8 @@ module _ (n c : ℕ) (m : Memory) where
       where
         Reader : Plan → Type 0
         Reader x =
-            number-of x ≡ cond (ltb p n) (cond (eqb (m (phase p)) 0) 6 0) (cond (eqb p n) (cond (eqb (m writer-phase) 0) 6 0) 3)
+            number-of x
+            ≡ cond (ltb p n) (cond (eqb (m (phase p)) 0) 6 0) (cond (eqb p n) (cond (eqb (m writer-phase) 0) 6 0) 3)
 
         Writer : Plan → Type 0
         Writer x = number-of x ≡ cond (eqb p n) (cond (eqb (m writer-phase) 0) 6 0) 3

@@ -1,4 +1,5 @@
--- What the counts say of slots and readers: the slot in hand is nobody's, counters have room, a scan ends. Assumes nothing.
+-- What the counts say of slots and readers: the slot in hand is nobody's, counters have room, a scan ends. Assumes
+-- nothing.
 use mathlib.Core.Path.{_≡_, refl, sym, _∙_}
 use mathlib.Core.Logic.{_≢_}
 use mathlib.Core.Bool.{Bool, true, false, cond}
@@ -7,16 +8,18 @@ use native.Mathlib.Decide.{ℕ-discrete}
 use native.Mathlib.Omega.{arith}
 use lib.Dec.{eqb}
 use Rattle.register.specs.Place.{Memory}
-use Rattle.register.specs.Area.{current, index, counter, r-start, r-end, phase, last, writer-phase, last-slot, in-hand, old-word}
+use Rattle.register.specs.Area.{current, index, counter, r-start, r-end, phase, last, writer-phase, last-slot}
+use Rattle.register.specs.Area.{in-hand, old-word}
 use Rattle.register.proofs.Tests.{hit, miss}
-use Rattle.register.proofs.Sums.{sum, sum-one, sum-at-most, sum-member, sum-ones}
+use Rattle.register.proofs.Sums.{sum-one, sum-at-most, sum-member, sum-ones}
 use Rattle.register.proofs.Balance.{Stage, idle, scanning, filling, told, Settled, hand-held}
 use Rattle.register.proofs.Counting.{is-bound, bound, bound-here, unbound, bound-at-most, Counted}
 
 module _ (n : ℕ) (m : Memory) where
   abbrev At-stage : ℕ → Type 0
   At-stage away =
-      Stage n (index (m current)) (λ s. m (r-end s)) (bound n m) (m writer-phase) (m last-slot) (m in-hand) (index (m old-word))
+      Stage n (index (m current)) (λ s. m (r-end s)) (bound n m) (m writer-phase) (m last-slot) (m in-hand)
+      (index (m old-word))
       (counter (m old-word)) away
 
   -- a reader that is bound is counted at its slot
@@ -114,9 +117,11 @@ module _ (n : ℕ) (m : Memory) where
         slot = v .lasts r h
 
         go : (away : ℕ) → At-stage away
-            → Settled n (index (m current)) (λ s. m (r-start s)) (λ s. m (r-end s)) (bound n m) away → m (r-end (m (last r))) < n
+            → Settled n (index (m current)) (λ s. m (r-start s)) (λ s. m (r-end s)) (bound n m) away
+            → m (r-end (m (last r))) < n
         go away (idle p q a) settled = omega (arith, settled (m (last r)) slot d (λ x. d (x ∙ a)), bound-there)
-        go away (scanning p q a s x g j z) settled = omega (arith, settled (m (last r)) slot d (λ y. d (y ∙ a)), bound-there)
+        go away (scanning p q a s x g j z) settled =
+            omega (arith, settled (m (last r)) slot d (λ y. d (y ∙ a)), bound-there)
         go away (filling p q a w x g z f) settled =
             let other : m (last r) ≢ away = λ y. unheld p q r h (λ k. omega arith) (y ∙ w) in
             omega (arith, settled (m (last r)) slot d other, bound-there)

@@ -1,19 +1,19 @@
--- Input A of document 01, computed from the definitions: what is printed, the history, the line and the counts. So the promises
+-- Input A of document 01, computed from the definitions: what is printed, the history, the line and the counts. So
+-- the promises
 -- speak of something. Assumes nothing.
 use mathlib.Core.Path.{_≡_, refl}
 use mathlib.Core.Bool.{Bool, true, false, cond, _&&_}
-use mathlib.Core.List.{List, [], _∷_, _++_}
-use Prim.Native.Nat.{ℕ, zero, suc, _+_}
+use mathlib.Core.List.{List, [], _∷_}
+use Prim.Native.Nat.{ℕ, suc}
 use lib.Dec.{T, ltb, eqb, eqb→eq, lit≤}
-use lib.ListN.{length, take}
-use Rattle.register.specs.Place.{Record}
+use lib.ListN.{take}
 use Rattle.register.specs.Area.{is-area, slot-sound, desk-sound, writer-sound, undamaged, readers}
 use Rattle.register.specs.Steps.{reader-step, writer-step, Move, read, write, step, mover}
 use Rattle.register.specs.Calls.{Answer, made, carried-out, answered, is-own, shown}
-use Rattle.register.specs.History.{after, Accepted, none, then, Read, Write, history}
-use Rattle.register.specs.Line.{Operation, start, reading, writing, Reordered, keep, swap, empty, At, here, Line}
-use Rattle.register.specs.Line.{Gives, done, from-start, to-read, from-write}
-use Rattle.register.specs.Demands.{Run, beginning, told}
+use Rattle.register.specs.History.{after, Accepted, none, then, Read, Write}
+use Rattle.register.specs.Line.{start, reading, writing, keep, swap, here, Line}
+use Rattle.register.specs.Line.{done, from-start, to-read, from-write}
+use Rattle.register.specs.Demands.{Run, told}
 use Rattle.register.proofs.Tests.{both}
 use Rattle.register.proofs.Lining.{Rising, no-more, next, in-order}
 use Rattle.register.proofs.SmallRuns.{areaP1, input-A, current-word}
@@ -34,7 +34,8 @@ kind (step p) = 1
 abbrev read-out : ℕ → ℕ → Answer → List ℕ
 read-out n p x = cond (x .ended && ltb p n) (x .age ∷ shown (x .area) p []) []
 
--- a line for each move: its number, process, kind, answer number, 1 if an operation ended or else 0, and a finished read
+-- a line for each move: its number, process, kind, answer number, 1 if an operation ended or else 0, and a finished
+-- read
 abbrev printed : ℕ → List ℕ → List Move → List (List ℕ)
 printed k a [] = []
 printed k a (x ∷ l) =
@@ -108,16 +109,19 @@ read-A =
     }
 
 reads-A : told run-A .reads ≡ read-A ∷ []
-unfolding run-A is-area slot-sound desk-sound writer-sound undamaged reader-step writer-step made carried-out answered is-own shown
+unfolding run-A is-area slot-sound desk-sound writer-sound undamaged reader-step writer-step made carried-out answered
+    is-own shown
 reads-A = refl
 
 writes-A : told run-A .writes ≡ write-A ∷ []
-unfolding run-A is-area slot-sound desk-sound writer-sound undamaged reader-step writer-step made carried-out answered is-own shown
+unfolding run-A is-area slot-sound desk-sound writer-sound undamaged reader-step writer-step made carried-out answered
+    is-own shown
 writes-A = refl
 
 -- the starting record, the write, the read
 line-A : Line (7 ∷ []) (told run-A)
-unfolding run-A is-area slot-sound desk-sound writer-sound undamaged reader-step writer-step made carried-out answered is-own shown
+unfolding run-A is-area slot-sound desk-sound writer-sound undamaged reader-step writer-step made carried-out answered
+    is-own shown
 line-A =
     record {
       line = start (7 ∷ []) ∷ writing write-A ∷ reading read-A ∷ [];

@@ -19,7 +19,8 @@ pub data Lined (first : Record) (t : ℕ) : ℕ → List Write → List Operatio
   nothing : {latest : ℕ} → Lined first t latest [] []
   with-read : {latest : ℕ} {x : Read} {writes : List Write} {line : List Operation} (moment : ℕ)
       → moment ≤ latest → x .begin ≤ moment → moment ≤ x .end → x .end ≤ t → x .gets .number ≡ length writes
-      → x .gets .shows ≡ newest first writes → Lined first t moment writes line → Lined first t latest writes (reading x ∷ line)
+      → x .gets .shows ≡ newest first writes → Lined first t moment writes line
+      → Lined first t latest writes (reading x ∷ line)
   with-write : {latest : ℕ} {w : Write} {writes : List Write} {line : List Operation}
       → w .publication ≤ latest → w .begin ≤ w .publication → w .publication ≤ w .end
       → Lined first t (w .publication) writes line → Lined first t latest (w ∷ writes) (writing w ∷ line)
@@ -59,7 +60,8 @@ module _ {first : Record} where
 
   -- its moment is its end, or the latest that there may be
   in-front : {latest : ℕ} {writes : List Write} (x : Read) → x .begin ≤ x .end → x .begin ≤ latest
-      → Placed first (x .begin) (x .end) (x .gets .shows) 0 writes → x .gets .number ≡ length writes → (line : List Operation)
+      → Placed first (x .begin) (x .end) (x .gets .shows) 0 writes → x .gets .number ≡ length writes
+      → (line : List Operation)
       → Lined first (x .end) latest writes line → Arranged first (x .end) latest writes (reading x ∷ line)
   in-front {latest = latest} x a b p k line l =
       record {
@@ -95,7 +97,8 @@ module _ {first : Record} where
       goes-behind (writing w) (λ l. with-write a b c) (put line rest)
 
   put-in : {latest back : ℕ} {writes : List Write} (x : Read) → x .begin ≤ x .end → x .begin ≤ latest
-      → Placed first (x .begin) (x .end) (x .gets .shows) back writes → back + x .gets .number ≡ length writes → (line : List Operation)
+      → Placed first (x .begin) (x .end) (x .gets .shows) back writes → back + x .gets .number ≡ length writes
+      → (line : List Operation)
       → Lined first (x .end) latest writes line → Arranged first (x .end) latest writes (reading x ∷ line)
   put-in x a b (at-start e) k = in-front x a b (at-start e) (omega arith)
   put-in x a b (at-newest q e) k = in-front x a b (at-newest q e) (omega arith)

@@ -4,23 +4,24 @@ use mathlib.Core.Logic.{_≢_}
 use mathlib.Core.Bool.{Bool, true, false, cond, not}
 use mathlib.Core.List.{List, [], _∷_}
 use Prim.Native.Nat.{ℕ, _≤_, _<_}
-use native.Mathlib.Omega.{arith}
 use lib.Dec.{eqb, ltb, leb, lit<}
 use lib.ListN.{length, getD}
 use Rattle.register.specs.Place.{Record, Memory, Store, apply}
 use Rattle.register.specs.Table.{address, has}
-use Rattle.register.specs.Area.{phase, len, finished, read-record, writer-phase, writes-ended, most-writes, readers, capacity, table, all, is-area, memory, undamaged}
+use Rattle.register.specs.Area.{phase, len, finished, read-record, writer-phase, writes-ended, most-writes}
+use Rattle.register.specs.Area.{readers, capacity, table, all, memory}
 use Rattle.register.specs.Steps.{Plan, refuse, accept, turns, begins-write, Move, read, write, step, mover}
-use Rattle.register.specs.Calls.{carried-out, answered, own-tests, is-own, words-from, shown}
+use Rattle.register.specs.Calls.{carried-out, answered, is-own, words-from, shown}
 use Rattle.register.specs.History.{went-on, looked, published, write-ended}
 use Rattle.register.specs.Demands.{Each, busy, Untouched, Intact, Keeps}
 use Rattle.register.proofs.Tests.{each-follows, if-true}
 use Rattle.register.proofs.Places.{row, row-same}
 use Rattle.register.proofs.Tables.{has-it, store-untouched}
-use Rattle.register.proofs.Moves.{Does, desk-record}
+use Rattle.register.proofs.Moves.{desk-record}
 use Rattle.register.proofs.Planned.{seen, seen-step}
 use Rattle.register.proofs.Others.{busy-in, is-end, works, DeskSame, desk-same, others-same}
-use Rattle.register.proofs.Called.{its-plan, Opened, opened, refused-keeps, area-facts, whole-area, does, after-is, after-length}
+use Rattle.register.proofs.Called.{its-plan, Opened, opened, refused-keeps, area-facts, whole-area, does}
+use Rattle.register.proofs.Called.{after-is, after-length}
 use Rattle.register.proofs.Called.{after-head, after-area, after-memory, after-exact, after-whole, after-sound}
 use Rattle.register.proofs.Observed.{shows-desk}
 
@@ -48,7 +49,8 @@ write-ends-nothing a v =
 step-ends : (n : ℕ) (m : Memory) (p : ℕ) (ends : Bool) (m′ : Memory) → is-end (seen n m (step p) ends m′) ≡ ends
 step-ends n m p ends m′ = go (ltb p n) ends
   where
-    writer : (s b t : Bool) → is-end (cond s (published b) (cond b write-ended (cond t looked (went-on (m writer-phase))))) ≡ b
+    writer : (s b t : Bool)
+        → is-end (cond s (published b) (cond b write-ended (cond t looked (went-on (m writer-phase))))) ≡ b
     writer true b t = refl
     writer false true t = refl
     writer false false true = refl
@@ -59,7 +61,8 @@ step-ends n m p ends m′ = go (ltb p n) ends
     go true false = refl
     go false b = writer (eqb (m writer-phase) 6) b (eqb (m writer-phase) 1)
 
-seen-end : (a : List ℕ) (x : Move) (o : Opened a x) (m′ : Memory) → is-end (seen (readers a) (memory a) x (o .ends) m′) ≡ o .ends
+seen-end : (a : List ℕ) (x : Move) (o : Opened a x) (m′ : Memory)
+    → is-end (seen (readers a) (memory a) x (o .ends) m′) ≡ o .ends
 seen-end a (read r) o m′ = sym (subst EndsNothing (o .chosen) (begin-ends-nothing a r))
 seen-end a (write v) o m′ = sym (subst EndsNothing (o .chosen) (write-ends-nothing a v))
 seen-end a (step p) o m′ = step-ends (readers a) (memory a) p (o .ends) m′
@@ -114,7 +117,8 @@ module _ {a : List ℕ} {x : Move} (o : Opened a x) where
     same-record : desk-record m′ r ≡ desk-record (memory a) r
     same-record =
         ap (λ k. row k (λ j. m′ (read-record r j))) (same .length-word)
-        ∙ row-same (memory a (len r)) (λ j. m′ (read-record r j)) (λ j. memory a (read-record r j)) (λ j h. same .words j)
+        ∙ row-same (memory a (len r)) (λ j. m′ (read-record r j)) (λ j. memory a (read-record r j))
+        (λ j h. same .words j)
 
     same-words : words-from b (address (table b) (read-record r 0)) (memory b (len r))
         ≡ words-from a (address (table a) (read-record r 0)) (memory a (len r))
@@ -142,7 +146,8 @@ module _ {a : List ℕ} {x : Move} (o : Opened a x) where
             (each-follows (λ s own. has-it (table a) (s .place) (own .has)) (does o .1));
         others = λ stores ends e i u.
             ap (λ y. getD y i 0) (after-is o)
-            ∙ store-untouched (table a) a (o .stores) i (subst (Untouched (table a) i) (ap stores-of (sym e ∙ o .chosen)) u);
+            ∙ store-untouched (table a) a (o .stores) i
+            (subst (Untouched (table a) i) (ap stores-of (sym e ∙ o .chosen)) u);
         its-own = its-own-work;
         of-others = of-others-work;
         shows = same-shown;

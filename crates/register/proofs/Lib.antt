@@ -8,11 +8,13 @@ pub mod Moves
 pub mod Counting
 pub mod Held
 pub mod Whole
+pub mod WriterDesk
 pub mod Stays
 pub mod Placed
 pub mod Inserting
 pub mod Lining
 pub mod Copying
+pub mod Told
 pub mod Telling
 pub mod StepCounts
 pub mod Bounds

@@ -1,21 +1,23 @@
--- Making on any form, N, C, record and slice: when it is accepted, what it then leaves, and that a refusal changes nothing.
+-- Making on any form, N, C, record and slice: when it is accepted, what it then leaves, and that a refusal changes
+-- nothing.
 -- Assumes nothing.
-use mathlib.Core.Path.{_≡_, refl, ap, _∙_}
+use mathlib.Core.Path.{_≡_, refl, _∙_}
 use mathlib.Core.Logic.{_≢_}
-use mathlib.Core.Bool.{Bool, true, false, cond, _&&_}
-use mathlib.Core.List.{List, [], _∷_}
-use Prim.Native.Nat.{ℕ, _+_, _*_, _≤_, _<_}
+use mathlib.Core.Bool.{true, _&&_}
+use mathlib.Core.List.{List}
+use Prim.Native.Nat.{ℕ, _+_, _*_, _≤_}
 use native.Mathlib.Omega.{arith}
-use lib.Dec.{eqb, leb, leb→le, le→leb, eqb→eq}
+use lib.Dec.{eqb, leb, leb→le, le→leb}
 use lib.ListN.{length}
 use Rattle.register.specs.Place.{Record}
 use Rattle.register.specs.Table.{total, view}
-use Rattle.register.specs.Area.{form1, range-tests, in-range, known-form, is-area, memory, undamaged}
+use Rattle.register.specs.Area.{form1, range-tests, in-range, known-form, memory, undamaged}
 use Rattle.register.specs.Calls.{Answer, refused, fresh, made}
 use Rattle.register.specs.Demands.{none, also, Refused, Makes}
 use Rattle.register.proofs.Tests.{passed, true-passes, both, all-pass, if-true, eqb-equal}
 use Rattle.register.proofs.Called.{InRange, range-facts, refused-is, sound-area}
-use Rattle.register.proofs.Making.{first-memory, fresh-view, fresh-readers, fresh-capacity, fresh-area, first-whole}
+use Rattle.register.proofs.Making.{first-memory, fresh-view, fresh-readers, fresh-capacity, fresh-area}
+use Rattle.register.proofs.Making.{first-whole}
 
 -- ---- making that was accepted
 
@@ -48,7 +50,8 @@ made-well form n c v slice =
 module _ (n c : ℕ) (v : Record) (range : InRange n c) (short : length v ≤ c) where
   pub fresh-memory : memory (fresh n c v) ≡ first-memory n c v
   fresh-memory =
-      (λ i. view (form1 (fresh-readers n c v short i) (fresh-capacity n c v short i)) (fresh n c v)) ∙ fresh-view n c v short
+      (λ i. view (form1 (fresh-readers n c v short i) (fresh-capacity n c v short i)) (fresh n c v))
+      ∙ fresh-view n c v short
 
   pub fresh-sound : undamaged (fresh n c v) ≡ true
   fresh-sound =
@@ -75,7 +78,8 @@ refused-made form n c v a =
     (λ e.
     if-true P (eqb (length a) (total (form1 n c))) _ (refused 10 a)
     (λ f.
-    if-true P (leb (length v) c) _ (refused 4 a) (λ g d. absurd (d refl)) (λ g d. refused-is 4 a)) (λ f d. refused-is 10 a))
+    if-true P (leb (length v) c) _ (refused 4 a) (λ g d. absurd (d refl)) (λ g d. refused-is 4 a))
+    (λ f d. refused-is 10 a))
     (λ e d. refused-is 9 a)
   where
     P : Answer → Type 0

@@ -1,30 +1,32 @@
--- A fresh area: it is an area, it is undamaged, and everything that a run keeps holds at its beginning. Assumes nothing.
-use mathlib.Core.Path.{_≡_, refl, sym, ap, subst, _∙_, fun-ext}
+-- A fresh area: it is an area, it is undamaged, and everything that a run keeps holds at its beginning. Assumes
+-- nothing.
+use mathlib.Core.Path.{_≡_, refl, sym, ap, _∙_, fun-ext}
 use mathlib.Core.Logic.{_≢_}
 use mathlib.Core.Bool.{Bool, true, false, cond}
-use mathlib.Core.List.{List, [], _∷_}
-use Prim.Native.Nat.{ℕ, zero, suc, _+_, _≤_, _<_}
+use mathlib.Core.List.{[], _∷_}
+use Prim.Native.Nat.{ℕ, zero, suc, _≤_, _<_}
 use native.Mathlib.Omega.{arith}
 use lib.Dec.{eqb, ltb, leb, ltb→lt, le→leb, eqb-refl, lit<}
 use lib.ListN.{length, getD, replicate, length-replicate}
-use Rattle.register.specs.Place.{Record, Place, Memory, Store, _≔_, apply, copied}
+use Rattle.register.specs.Place.{Record, Place, Memory, _≔_, apply}
 use Rattle.register.specs.Table.{total, address, has, view}
-use Rattle.register.specs.Area.{form1, slots-at, desks-at, writer-at, header, current, index, counter, limit}
-use Rattle.register.specs.Area.{slot-field, size, contents, desk-field, writer-field, last, phase, all, range-tests, is-area}
+use Rattle.register.specs.Area.{form1, slots-at, desks-at, writer-at, header, current, index, counter}
+use Rattle.register.specs.Area.{slot-field, size, contents, desk-field, writer-field, last, phase, all}
+use Rattle.register.specs.Area.{range-tests, is-area}
 use Rattle.register.specs.Calls.{making, fresh}
 use Rattle.register.specs.History.{nothing-yet}
-use Rattle.register.specs.Demands.{Each, none, also}
-use Rattle.register.proofs.Tests.{passed, true-passes, all-pass, eqb-same, eqb-equal, same-either}
+use Rattle.register.specs.Demands.{none, also}
+use Rattle.register.proofs.Tests.{passed, all-pass, same-either}
 use Rattle.register.proofs.Sums.{sum-same, sum-zero, sum-ones}
 use Rattle.register.proofs.Places.{copied-elsewhere, row, row-copied}
 use Rattle.register.proofs.Tables.{view-store, view-here, length-store, Has, AllHas}
-use Rattle.register.proofs.Form1.{Own, all-has, has-header, own-current, own-slot, own-contents, own-copied}
+use Rattle.register.proofs.Form1.{all-has, has-header, own-slot, own-contents, own-copied}
 use Rattle.register.proofs.Balance.{idle}
 use Rattle.register.proofs.Counting.{is-bound, bound, bound-away, Counted}
 use Rattle.register.proofs.Whole.{Whole}
 use Rattle.register.proofs.Placed.{sound-at-first}
 use Rattle.register.proofs.Copying.{not-yet, nothing-written}
-use Rattle.register.proofs.Telling.{Told}
+use Rattle.register.proofs.Told.{Told}
 use Rattle.register.proofs.StepCounts.{at-rest, no-steps}
 use Rattle.register.proofs.Bounds.{Bounded}
 use Rattle.register.proofs.Dates.{Dated, all-ended}
@@ -74,17 +76,23 @@ module _ (n c : ℕ) (v : Record) where
   module _ (short : length v ≤ c) where
     making-has : AllHas (form1 n c) (making n c v)
     making-has =
-        let h : (i : ℕ) → lib.Dec.T (ltb i 8) → Has (form1 n c) (record { part = 0; field = i; row = 0; column = 0 }) = λ i t. has-header n c i (ltb→lt i 8 t) in
-        also (h 0 tt) (also (h 1 tt) (also (h 2 tt) (also (h 3 tt) (also (h 4 tt) (also (h 5 tt) (also (h 6 tt) (also (h 7 tt)
+        let h : (i : ℕ) → lib.Dec.T (ltb i 8)
+        → Has (form1 n c) (record { part = 0; field = i; row = 0; column = 0 }) = λ i t. has-header n c i
+        (ltb→lt i 8 t) in
+        also (h 0 tt)
+        (also (h 1 tt) (also (h 2 tt) (also (h 3 tt) (also (h 4 tt) (also (h 5 tt) (also (h 6 tt) (also (h 7 tt)
         (also (own-slot n c 2 0 (omega arith) (omega arith) .has)
-        (all-has n c (own-copied n c (contents 0) (λ i k. own-contents n c 0 i (omega arith) k) v 0 (omega arith)))))))))))
+        (all-has n c
+        (own-copied n c (contents 0) (λ i k. own-contents n c 0 i (omega arith) k) v 0 (omega arith)))))))))))
 
     pub fresh-length : length (fresh n c v) ≡ total (form1 n c)
-    fresh-length = length-store (form1 n c) (replicate (total (form1 n c)) 0) (making n c v) ∙ length-replicate (total (form1 n c)) 0
+    fresh-length = length-store (form1 n c) (replicate (total (form1 n c)) 0) (making n c v)
+        ∙ length-replicate (total (form1 n c)) 0
 
     pub fresh-view : view (form1 n c) (fresh n c v) ≡ first-memory
     fresh-view =
-        view-store (form1 n c) (replicate (total (form1 n c)) 0) (making n c v) (length-replicate (total (form1 n c)) 0) making-has
+        view-store (form1 n c) (replicate (total (form1 n c)) 0) (making n c v)
+        (length-replicate (total (form1 n c)) 0) making-has
         ∙ ap (λ m. apply m (making n c v)) (fun-ext empty)
       where
         empty : (p : Place) → view (form1 n c) (replicate (total (form1 n c)) 0) p ≡ 0
@@ -95,7 +103,8 @@ module _ (n c : ℕ) (v : Record) where
     -- words 0 to 6
     fresh-word : (i : ℕ) → i < 8 → getD (fresh n c v) (address (form1 n c) (header i)) 0 ≡ blank (header i)
     fresh-word i l =
-        sym (view-here (form1 n c) (fresh n c v) (header i) (has-header n c i l)) ∙ ap (λ m. m (header i)) fresh-view ∙ at-header i
+        sym (view-here (form1 n c) (fresh n c v) (header i) (has-header n c i l)) ∙ ap (λ m. m (header i)) fresh-view
+        ∙ at-header i
 
     pub fresh-readers : getD (fresh n c v) 1 0 ≡ n
     fresh-readers = fresh-word 1 (lit< tt)
@@ -106,13 +115,25 @@ module _ (n c : ℕ) (v : Record) where
     pub fresh-area : InRange n c → is-area (fresh n c v) ≡ true
     unfolding is-area
     fresh-area range =
-        rw (fresh-length, fresh-word 0 (lit< tt), fresh-readers, fresh-capacity, fresh-word 3 (lit< tt), fresh-word 4 (lit< tt), fresh-word 5 (lit< tt), fresh-word 6 (lit< tt))
+        rw (
+          fresh-length,
+          fresh-word 0 (lit< tt),
+          fresh-readers,
+          fresh-capacity,
+          fresh-word 3 (lit< tt),
+          fresh-word 4
+              (lit< tt),
+          fresh-word 5 (lit< tt),
+          fresh-word 6 (lit< tt),
+        )
         (passed _
         (all-pass
-        (leb 8 T ∷ all (range-tests n c) ∷ eqb T T ∷ eqb (desks-at n c) (desks-at n c) ∷ eqb (writer-at n c) (writer-at n c) ∷ eqb T T ∷ [])
+        (leb 8 T ∷ all (range-tests n c) ∷ eqb T T ∷ eqb (desks-at n c) (desks-at n c)
+        ∷ eqb (writer-at n c) (writer-at n c) ∷ eqb T T ∷ [])
         (also (le→leb 8 T (omega arith))
         (also in-its-range
-        (also (eqb-refl T) (also (eqb-refl (desks-at n c)) (also (eqb-refl (writer-at n c)) (also (eqb-refl T) none))))))))
+        (also (eqb-refl T)
+        (also (eqb-refl (desks-at n c)) (also (eqb-refl (writer-at n c)) (also (eqb-refl T) none))))))))
       where
         T : ℕ
         T = total (form1 n c)

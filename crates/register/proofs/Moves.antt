@@ -1,18 +1,22 @@
 -- The accepted moves as a relation on memories: one constructor for each way through the steps. Assumes nothing.
 use mathlib.Core.Path.{_≡_}
 use mathlib.Core.Logic.{_≢_}
-use mathlib.Core.Bool.{Bool, true, false, cond}
+use mathlib.Core.Bool.{true, false, cond}
 use mathlib.Core.List.{List, [], _∷_, _++_}
 use Prim.Native.Nat.{ℕ, suc, _-_, _≤_, _<_}
 use lib.Dec.{eqb, ltb}
 use lib.ListN.{length, getD}
 use Rattle.register.specs.Place.{Record, Memory, Store, _≔_, apply}
-use Rattle.register.specs.Area.{current, index, counter, r-start, r-end, size, slot-write-number, contents, limit, most-writes}
+use Rattle.register.specs.Area.{current, index, counter, r-start, r-end, size, slot-write-number, contents}
+use Rattle.register.specs.Area.{limit, most-writes}
 use Rattle.register.specs.Area.{phase, last, pos, len, desk-write-number, read-record}
-use Rattle.register.specs.Area.{writer-phase, last-slot, in-hand, writer-pos, writer-len, writes-ended, write-record}
-use Rattle.register.specs.Steps.{turns, unbinds, binds, takes, copies, finishes, passes, sizes, clears-start, clears-end}
+use Rattle.register.specs.Area.{writer-phase, last-slot, in-hand, writer-pos, writer-len, writes-ended}
+use Rattle.register.specs.Area.{write-record}
+use Rattle.register.specs.Steps.{turns, unbinds, binds, takes, copies, finishes, passes, sizes, clears-start}
+use Rattle.register.specs.Steps.{clears-end}
 use Rattle.register.specs.Steps.{publishes, freezes}
-use Rattle.register.specs.History.{Got, Deed, Event, read-began, write-began, went-on, looked, published, read-ended, write-ended}
+use Rattle.register.specs.History.{Got, Deed, Event, read-began, write-began, went-on, looked, published}
+use Rattle.register.specs.History.{read-ended, write-ended}
 use Rattle.register.proofs.Places.{row}
 
 abbrev pub by : ℕ → Deed → Event
@@ -22,7 +26,8 @@ by p d = record { who = p; what = d }
 abbrev pub desk-with : Memory → Record → Memory
 desk-with m v p =
     cond (eqb (p .part) 3)
-    (cond (eqb (p .field) 7) (cond (eqb (p .row) 0) (cond (ltb (p .column) (length v)) (getD v (p .column) 0) (m p)) (m p)) (m p))
+    (cond (eqb (p .field) 7)
+    (cond (eqb (p .row) 0) (cond (ltb (p .column) (length v)) (getD v (p .column) 0) (m p)) (m p)) (m p))
     (m p)
 
 -- the stores of the writer's begin behind that copy
@@ -57,7 +62,8 @@ pub data Does (n c : ℕ) (m : Memory) : Event → Memory → Type 0 where
   joins-slot : (r : ℕ) → r < n → m (phase r) ≡ 3 → counter (m current) < limit n
       → Does n c m (by r (went-on 3)) (apply m (binds m r))
   takes-none : (r : ℕ) → r < n → m (phase r) ≡ 4 → m (size (m (last r))) ≡ 0
-      → Does n c m (by r (read-ended (got-now m (m (slot-write-number (m (last r)))) []))) (apply m (takes m r ++ finishes r))
+      → Does n c m (by r (read-ended (got-now m (m (slot-write-number (m (last r)))) [])))
+      (apply m (takes m r ++ finishes r))
   takes-size : (r : ℕ) → r < n → m (phase r) ≡ 4 → m (size (m (last r))) ≢ 0
       → Does n c m (by r (went-on 4)) (apply m (takes m r ++ turns r 5))
   copies-word : (r : ℕ) → r < n → m (phase r) ≡ 5 → suc (m (pos r)) ≢ m (len r)
@@ -67,21 +73,20 @@ pub data Does (n c : ℕ) (m : Memory) : Event → Memory → Type 0 where
       (apply m (copies m r ++ finishes r))
   write-starts : (v : Record) → length v ≤ c → m writer-phase ≡ 0 → m writes-ended < most-writes
       → Does n c m (by n (write-began v)) (apply (desk-with m v) (sets-out v))
-  picks-empty : m writer-phase ≡ 1 → m in-hand ≢ m last-slot → m (r-start (m in-hand)) ≡ m (r-end (m in-hand)) → m writer-len ≡ 0
+  picks-empty : m writer-phase ≡ 1 → m in-hand ≢ m last-slot → m (r-start (m in-hand)) ≡ m (r-end (m in-hand))
+      → m writer-len ≡ 0
       → Does n c m (by n looked) (apply m (to-phase 3))
-  picks-slot : m writer-phase ≡ 1 → m in-hand ≢ m last-slot → m (r-start (m in-hand)) ≡ m (r-end (m in-hand)) → m writer-len ≢ 0
+  picks-slot : m writer-phase ≡ 1 → m in-hand ≢ m last-slot → m (r-start (m in-hand)) ≡ m (r-end (m in-hand))
+      → m writer-len ≢ 0
       → Does n c m (by n looked) (apply m (to-phase 2))
   passes-slot : m writer-phase ≡ 1 → (m in-hand ≢ m last-slot → m (r-start (m in-hand)) ≢ m (r-end (m in-hand)))
       → m in-hand ≢ suc n → Does n c m (by n looked) (apply m (passes m))
-  fills-word : m writer-phase ≡ 2 → suc (m writer-pos) ≢ m writer-len → Does n c m (by n (went-on 2)) (apply m (fills-to m 2))
-  fills-last : m writer-phase ≡ 2 → suc (m writer-pos) ≡ m writer-len → Does n c m (by n (went-on 2)) (apply m (fills-to m 3))
+  fills-word : m writer-phase ≡ 2 → suc (m writer-pos) ≢ m writer-len
+      → Does n c m (by n (went-on 2)) (apply m (fills-to m 2))
+  fills-last : m writer-phase ≡ 2 → suc (m writer-pos) ≡ m writer-len
+      → Does n c m (by n (went-on 2)) (apply m (fills-to m 3))
   sets-size : m writer-phase ≡ 3 → Does n c m (by n (went-on 3)) (apply m (sizes m))
   clears-first : m writer-phase ≡ 4 → Does n c m (by n (went-on 4)) (apply m (clears-start m))
   clears-second : m writer-phase ≡ 5 → Does n c m (by n (went-on 5)) (apply m (clears-end m))
   exchanges : m writer-phase ≡ 6 → Does n c m (by n (published false)) (apply m (publishes m))
   write-ends : m writer-phase ≡ 7 → Does n c m (by n write-ended) (apply m (freezes m))
-
--- a run: accepted moves from one memory to another, and what they did
-pub data Did (n c : ℕ) : Memory → List Event → Memory → Type 0 where
-  stop : {m : Memory} → Did n c m [] m
-  go : {m m′ m″ : Memory} {e : Event} {l : List Event} → Does n c m e m′ → Did n c m′ l m″ → Did n c m (e ∷ l) m″

@@ -1,30 +1,29 @@
 -- What the history sees of an accepted call is what the call did. Assumes nothing.
 use mathlib.Core.Path.{_≡_, refl, sym, ap, subst, _∙_}
-use mathlib.Core.Logic.{_≢_}
 use mathlib.Core.Bool.{Bool, true, false, cond, _&&_}
-use mathlib.Core.List.{List, [], _∷_}
-use Prim.Native.Nat.{ℕ, suc, _+_, _*_, _≤_, _<_}
+use mathlib.Core.List.{List, []}
+use Prim.Native.Nat.{ℕ, _+_, _≤_, _<_}
 use native.Mathlib.Nat.{mul-le-mul-right}
 use native.Mathlib.Omega.{arith}
 use lib.Dec.{ltb, ltb→lt, lt→ltb, lit<}
 use lib.ListN.{length, getD}
-use Rattle.register.specs.Place.{Record, Memory, apply}
-use Rattle.register.specs.Table.{total, address, view, store}
-use Rattle.register.specs.Area.{form1, phase, len, finished, desk-write-number, read-record, writer-phase}
-use Rattle.register.specs.Area.{readers, capacity, table, is-area, memory, undamaged}
-use Rattle.register.specs.Calls.{Answer, age-of, carried-out, stepped, own-tests, is-own, words-from, shown}
-use Rattle.register.specs.History.{Got, got, Deed, Event, read-began, write-began, went-on, looked, published, read-ended}
+use Rattle.register.specs.Place.{Memory, apply}
+use Rattle.register.specs.Table.{total, address}
+use Rattle.register.specs.Area.{phase, len, finished, desk-write-number, read-record, writer-phase}
+use Rattle.register.specs.Area.{readers, capacity, table, memory}
+use Rattle.register.specs.Calls.{age-of, carried-out, stepped, own-tests, is-own, words-from, shown}
+use Rattle.register.specs.History.{got, Deed, Event, read-began, write-began, went-on, looked, published}
+use Rattle.register.specs.History.{read-ended}
 use Rattle.register.specs.History.{write-ended, reader-deed, writer-deed, event}
 use Rattle.register.specs.Steps.{Move, read, write, step, mover}
 use Rattle.register.proofs.Tests.{passed, true-passes, all-pass, eqb-same, eqb-equal, ltb-below}
 use Rattle.register.specs.Demands.{none, also}
-use Rattle.register.proofs.Places.{row, row-same}
-use Rattle.register.proofs.Tables.{address-within, view-here, words-row}
+use Rattle.register.proofs.Places.{row-same}
+use Rattle.register.proofs.Tables.{view-here, words-row}
 use Rattle.register.proofs.Form1.{own-read-record}
 use Rattle.register.proofs.Moves
 use Rattle.register.proofs.Moves.{Does, by, desk-record}
 use Rattle.register.proofs.Planned.{seen, seen-got, seen-reader, seen-writer}
-use Rattle.register.proofs.Whole.{Whole}
 use Rattle.register.proofs.Called.{Opened, does, after-head, after-area, after-view, after-memory, after-exact}
 use Rattle.register.proofs.Called.{after-whole, after-sound}
 
@@ -92,7 +91,8 @@ module _ (a : List ℕ) (p : ℕ) (o : Opened a (step p)) where
   module _ (l : p < readers a) (e : o .ends ≡ true) where
     reader-rests : (m′ (phase p) ≡ 0) × (m′ (finished p) ≡ 1)
     reader-rests =
-        let deed : seen (readers a) (memory a) (step p) (o .ends) m′ ≡ read-ended (seen-got m′ p) = rw (ltb-below p (readers a) l, e) in
+        let deed : seen (readers a) (memory a) (step p) (o .ends) m′ ≡ read-ended (seen-got m′ p) =
+        rw (ltb-below p (readers a) l, e) in
         subst (λ d. Rested d m′ p) deed (rested (does o .0))
 
     still : p < readers b
@@ -133,7 +133,8 @@ module _ (a : List ℕ) (p : ℕ) (o : Opened a (step p)) where
       shows = shows-record i;
     }
 
-  reader-observed : p < readers a → reader-deed p (memory a (phase p)) (stepped a p) ≡ seen-reader (memory a) p (o .ends) m′
+  reader-observed : p < readers a → reader-deed p (memory a (phase p)) (stepped a p)
+      ≡ seen-reader (memory a) p (o .ends) m′
   reader-observed l = ap Seen same-ended ∙ go (o .ends) refl
     where
       Seen : Bool → Deed
@@ -155,7 +156,9 @@ observed a (step p) o = λ i. record { who = p; what = what i }
     what = go (ltb p (readers a)) refl
       where
         go : (t : Bool) → ltb p (readers a) ≡ t
-            → cond t (reader-deed p (memory a (phase p)) (stepped a p)) (writer-deed (memory a writer-phase) (stepped a p))
-            ≡ cond t (seen-reader (memory a) p (o .ends) (apply (memory a) (o .stores))) (seen-writer (memory a writer-phase) (o .ends))
+            → cond t (reader-deed p (memory a (phase p)) (stepped a p))
+            (writer-deed (memory a writer-phase) (stepped a p))
+            ≡ cond t (seen-reader (memory a) p (o .ends) (apply (memory a) (o .stores)))
+            (seen-writer (memory a writer-phase) (o .ends))
         go true e = reader-observed a p o (ltb→lt p (readers a) (true-passes _ e))
         go false e = ap (seen-writer (memory a writer-phase)) (same-ended a p o)

@@ -2,12 +2,13 @@
 use mathlib.Core.Path.{_≡_, refl, sym, ap, _∙_}
 use mathlib.Core.Logic.{_≢_}
 use mathlib.Core.Bool.{Bool, true, false, cond, not}
-use Prim.Native.Nat.{ℕ, suc, _≤_, _<_}
+use Prim.Native.Nat.{ℕ, _≤_}
 use native.Mathlib.Omega.{arith}
 use lib.Dec.{eqb, ltb, nltb→le}
 use Rattle.register.specs.Place.{Memory}
 use Rattle.register.specs.Area.{phase, len, finished, read-record, writer-phase}
-use Rattle.register.specs.History.{Deed, Event, read-began, write-began, went-on, looked, published, read-ended, write-ended}
+use Rattle.register.specs.History.{Deed, Event, read-began, write-began, went-on, looked, published, read-ended}
+use Rattle.register.specs.History.{write-ended}
 use Rattle.register.proofs.Tests.{eqb-same, eqb-other, ltb-below, ltb-beyond}
 use Rattle.register.proofs.Moves
 use Rattle.register.proofs.Moves.{Does}
@@ -84,7 +85,8 @@ desk-same (Moves.copies-last q l e x) r d =
       length-word = refl;
       words = λ j. rw (eqb-other r q d);
     }
-desk-same (Moves.write-starts u l e more) r d = record { phases = refl; flag = refl; length-word = refl; words = λ j. refl }
+desk-same (Moves.write-starts u l e more) r d =
+    record { phases = refl; flag = refl; length-word = refl; words = λ j. refl }
 desk-same (Moves.picks-empty e x y z) r d = record { phases = refl; flag = refl; length-word = refl; words = λ j. refl }
 desk-same (Moves.picks-slot e x y z) r d = record { phases = refl; flag = refl; length-word = refl; words = λ j. refl }
 desk-same (Moves.passes-slot e x y) r d = record { phases = refl; flag = refl; length-word = refl; words = λ j. refl }

@@ -1,19 +1,20 @@
 -- Changes of places, stores in a row, and the words of a row as a record. Assumes nothing.
-use mathlib.Core.Path.{_≡_, refl, sym, ap, ap₂, _∙_}
+use mathlib.Core.Path.{_≡_, refl, ap, ap₂, _∙_}
 use mathlib.Core.Logic.{_≢_}
 use mathlib.Core.Bool.{Bool, true, false, cond}
 use mathlib.Core.List.{List, [], _∷_, _++_}
 use Prim.Native.Nat.{ℕ, zero, suc, _+_, _≤_, _<_}
 use native.Mathlib.Decide.{ℕ-discrete}
 use native.Mathlib.Omega.{arith}
-use lib.Dec.{T, eqb, ltb, ltb→lt, nltb→le}
+use lib.Dec.{eqb, ltb, ltb→lt, nltb→le}
 use lib.ListN.{length, getD}
 use Rattle.register.specs.Place.{Record, Place, Memory, changed, Store, apply, copied}
 use Rattle.register.proofs.Tests.{eqb-same, eqb-other, same-either, true-passes}
 
 -- ---- one place changed
 
-pub place-equal : (p q : Place) → p .part ≡ q .part → p .field ≡ q .field → p .row ≡ q .row → p .column ≡ q .column → p ≡ q
+pub place-equal : (p q : Place) → p .part ≡ q .part → p .field ≡ q .field → p .row ≡ q .row → p .column ≡ q .column
+    → p ≡ q
 place-equal p q a b c d = λ i. record { part = a i; field = b i; row = c i; column = d i }
 
 pub place-discrete : (q p : Place) → Dec (q ≡ p)
@@ -21,7 +22,8 @@ place-discrete q p =
     at (ℕ-discrete (q .part) (p .part)) (ℕ-discrete (q .field) (p .field)) (ℕ-discrete (q .row) (p .row))
     (ℕ-discrete (q .column) (p .column))
   where
-    at : Dec (q .part ≡ p .part) → Dec (q .field ≡ p .field) → Dec (q .row ≡ p .row) → Dec (q .column ≡ p .column) → Dec (q ≡ p)
+    at : Dec (q .part ≡ p .part) → Dec (q .field ≡ p .field) → Dec (q .row ≡ p .row) → Dec (q .column ≡ p .column)
+        → Dec (q ≡ p)
     at (no x) b c d = no (λ e. x (ap (λ y. y .part) e))
     at (yes x) (no y) c d = no (λ e. y (ap (λ k. k .field) e))
     at (yes x) (yes y) (no z) d = no (λ e. z (ap (λ k. k .row) e))
@@ -58,18 +60,21 @@ apply-append m (x ∷ s) t = apply-append (changed m (x .place) (x .value)) s t
 
 -- a record copied into a row: places elsewhere, places past the record, and the record's own
 module _ (at : ℕ → Place) (apart : (i j : ℕ) → at i ≡ at j → i ≡ j) where
-  pub copied-elsewhere : (m : Memory) (v : Record) (i : ℕ) (q : Place) → ((j : ℕ) → q ≢ at j) → apply m (copied at i v) q ≡ m q
+  pub copied-elsewhere : (m : Memory) (v : Record) (i : ℕ) (q : Place) → ((j : ℕ) → q ≢ at j)
+      → apply m (copied at i v) q ≡ m q
   copied-elsewhere m [] i q d = refl
   copied-elsewhere m (x ∷ v) i q d =
       copied-elsewhere (changed m (at i) x) v (suc i) q d ∙ changed-elsewhere m (at i) x q (d i)
 
-  pub copied-past : (m : Memory) (v : Record) (i j : ℕ) → (i ≤ j → i + length v ≤ j) → apply m (copied at i v) (at j) ≡ m (at j)
+  pub copied-past : (m : Memory) (v : Record) (i j : ℕ) → (i ≤ j → i + length v ≤ j) → apply m (copied at i v) (at j)
+      ≡ m (at j)
   copied-past m [] i j d = refl
   copied-past m (x ∷ v) i j d =
       copied-past (changed m (at i) x) v (suc i) j (λ l. omega (arith, d (omega arith)))
       ∙ changed-elsewhere m (at i) x (at j) (λ e. omega (arith, apart j i e, d (omega (arith, apart j i e))))
 
-  pub copied-here : (m : Memory) (v : Record) (i j k : ℕ) → j < length v → k ≡ i + j → apply m (copied at i v) (at k) ≡ getD v j 0
+  pub copied-here : (m : Memory) (v : Record) (i j k : ℕ) → j < length v → k ≡ i + j → apply m (copied at i v) (at k)
+      ≡ getD v j 0
   copied-here m [] i j k l e = absurd (omega arith)
   copied-here m (x ∷ v) i zero k l e =
       let same : k ≡ i = omega arith in
@@ -93,7 +98,8 @@ row (suc n) f = f zero ∷ row n (λ i. f (suc i))
 pub row-same : (n : ℕ) (f g : ℕ → ℕ) → ((j : ℕ) → j < n → f j ≡ g j) → row n f ≡ row n g
 row-same zero f g h = refl
 row-same (suc n) f g h =
-    ap₂ (λ x l. x ∷ l) (h 0 (omega arith)) (row-same n (λ j. f (suc j)) (λ j. g (suc j)) (λ j k. h (suc j) (omega arith)))
+    ap₂ (λ x l. x ∷ l) (h 0 (omega arith))
+    (row-same n (λ j. f (suc j)) (λ j. g (suc j)) (λ j k. h (suc j) (omega arith)))
 
 pub row-record : (v : Record) → row (length v) (λ j. getD v j 0) ≡ v
 row-record [] = refl

@@ -2,25 +2,29 @@
 -- Assumes nothing.
 use mathlib.Core.Path.{_≡_, refl, sym, ap, subst, _∙_, fun-ext}
 use mathlib.Core.Logic.{_≢_}
-use mathlib.Core.Bool.{Bool, true, false, cond, _&&_, not}
-use mathlib.Core.List.{List, [], _∷_, _++_}
-use Prim.Native.Nat.{ℕ, zero, suc, _+_, _-_, _≤_, _<_}
+use mathlib.Core.Bool.{Bool, true, false, cond}
+use mathlib.Core.List.{_++_}
+use Prim.Native.Nat.{ℕ, suc, _<_}
 use native.Mathlib.Decide.{ℕ-discrete}
 use native.Mathlib.Omega.{arith}
 use lib.Dec.{T, eqb, ltb, ltb→lt}
-use lib.ListN.{length, getD}
-use Rattle.register.specs.Place.{Record, Place, Memory, Store, _≔_, apply, copied}
-use Rattle.register.specs.Area.{current, index, counter, r-start, r-end, size, limit, most-writes}
+use lib.ListN.{length}
+use Rattle.register.specs.Place.{Record, Place, Memory, apply, copied}
+use Rattle.register.specs.Area.{current, index, counter, r-end, size, limit, most-writes}
 use Rattle.register.specs.Area.{phase, last, pos, len, desk-write-number}
-use Rattle.register.specs.Area.{writer-phase, last-slot, in-hand, writer-pos, writer-len, old-word, writes-ended, write-record}
-use Rattle.register.specs.Steps.{Plan, refuse, accept, read-plan, write-plan, reader-step, writer-step, begins-write, free}
+use Rattle.register.specs.Area.{writer-phase, in-hand, writer-pos, writer-len, old-word}
+use Rattle.register.specs.Area.{writes-ended, write-record}
+use Rattle.register.specs.Steps.{Plan, refuse, accept, write-plan, reader-step, writer-step}
+use Rattle.register.specs.Steps.{begins-write, free}
 use Rattle.register.specs.Steps.{turns, turns-to}
 use Rattle.register.specs.Steps
-use Rattle.register.specs.History.{Got, Deed, read-began, write-began, went-on, looked, published, read-ended, write-ended}
+use Rattle.register.specs.History.{Got, Deed, read-began, write-began, went-on, looked, published, read-ended}
+use Rattle.register.specs.History.{write-ended}
 use Rattle.register.specs.Steps.{Move, read, write, step, mover, plan}
-use Rattle.register.specs.Demands.{Each, none, also}
+use Rattle.register.specs.Demands.{none, also}
 use Rattle.register.proofs.Tests.{if-true, if-equal, if-less, if-at-most, end, next, at-number}
-use Rattle.register.proofs.Tests.{eqb-same, eqb-other, ltb-below, ltb-beyond, same-either, differ-and-same, not-differ-and-same}
+use Rattle.register.proofs.Tests.{eqb-same, eqb-other, ltb-below, ltb-beyond, same-either, differ-and-same}
+use Rattle.register.proofs.Tests.{not-differ-and-same}
 use Rattle.register.proofs.Places.{place-equal, apply-append, copied-elsewhere, copied-column}
 use Rattle.register.proofs.Form1.{Own, AllOwn, own-append, own-current, own-slot, own-contents, own-desk}
 use Rattle.register.proofs.Form1.{own-read-record, own-writer, own-write-record, own-copied}
@@ -98,7 +102,8 @@ module _ (n c : ℕ) (m : Memory) where
       R = Outcome r (seen-reader m r)
 
       -- a step that ends nothing
-      on : {m′ : Memory} (k : ℕ) → m (phase r) ≡ k → Does n c m (by r (went-on k)) m′ → Does n c m (by r (went-on (m (phase r)))) m′
+      on : {m′ : Memory} (k : ℕ) → m (phase r) ≡ k → Does n c m (by r (went-on k)) m′
+          → Does n c m (by r (went-on (m (phase r)))) m′
       on k e x = renamed (ap went-on (sym e)) x
 
       looks : m (phase r) ≡ 1 → R (accept (turns r (turns-to m r)) false)
@@ -107,7 +112,8 @@ module _ (n c : ℕ) (m : Memory) where
           (λ x. (on 1 e (Moves.finds-same r l e x), also (desk 0 tt) none))
           (λ x. (on 1 e (Moves.finds-other r l e x), also (desk 0 tt) none))
 
-      unbinds : m (phase r) ≡ 2 → R (cond (ltb (m (r-end (m (last r)))) (limit n)) (accept (Steps.unbinds m r) false) (refuse 2))
+      unbinds : m (phase r) ≡ 2
+          → R (cond (ltb (m (r-end (m (last r)))) (limit n)) (accept (Steps.unbinds m r) false) (refuse 2))
       unbinds e =
           if-less R (m (r-end (m (last r)))) (limit n) (accept (Steps.unbinds m r) false) (refuse 2)
           (λ x. (
@@ -116,7 +122,8 @@ module _ (n c : ℕ) (m : Memory) where
           ))
           (λ x y. omega arith)
 
-      binds : m (phase r) ≡ 3 → R (cond (ltb (counter (m current)) (limit n)) (accept (Steps.binds m r) false) (refuse 2))
+      binds : m (phase r) ≡ 3
+          → R (cond (ltb (counter (m current)) (limit n)) (accept (Steps.binds m r) false) (refuse 2))
       binds e =
           if-less R (counter (m current)) (limit n) (accept (Steps.binds m r) false) (refuse 2)
           (λ x. (
@@ -260,4 +267,5 @@ module _ (n c : ℕ) (m : Memory) where
       where
         writer-steps : Outcome n (seen n m (step n)) (writer-step n m)
         writer-steps =
-            subst (λ b. Outcome n (seen-step b m n) (writer-step n m)) (sym (ltb-beyond n n (omega arith))) writer-planned
+            subst (λ b. Outcome n (seen-step b m n) (writer-step n m))
+            (sym (ltb-beyond n n (omega arith))) writer-planned

@@ -1,33 +1,35 @@
--- Demand 3 and all that goes with it, over the calls: a run keeps everything, and what it keeps is the promise. Assumes nothing.
+-- Demand 3 and all that goes with it, over the calls: a run keeps everything, and what it keeps is the promise.
+-- Assumes nothing.
 use mathlib.Core.Path.{_≡_, refl, sym, ap, subst, subst₂, _∙_}
-use mathlib.Core.Logic.{_≢_, inl, inr}
-use mathlib.Core.Bool.{Bool, true, false, cond, _&&_}
+use mathlib.Core.Logic.{inl, inr}
+use mathlib.Core.Bool.{true}
 use mathlib.Core.List.{List, [], _∷_}
-use Prim.Native.Nat.{ℕ, zero, suc, _+_, _≤_, _<_}
-use native.Mathlib.Decide.{ℕ-discrete}
+use Prim.Native.Nat.{ℕ, suc, _+_, _≤_, _<_}
 use native.Mathlib.Omega.{arith}
-use lib.Dec.{T, eqb, ltb, leb, leb→le, eqb→eq, lit<}
-use lib.ListN.{length, getD}
+use lib.Dec.{lit<}
+use lib.ListN.{length}
 use Rattle.register.specs.Place.{Record, Memory, apply}
-use Rattle.register.specs.Table.{total, view}
-use Rattle.register.specs.Area.{form1, in-range, known-form, phase, len, writer-phase, writer-len, is-area, memory, undamaged}
-use Rattle.register.specs.Area.{readers, capacity, table}
-use Rattle.register.specs.Calls.{Answer, refused, fresh, made, answered}
+use Rattle.register.specs.Area.{is-area}
+use Rattle.register.specs.Area.{memory, undamaged}
+use Rattle.register.specs.Area.{readers, capacity}
+use Rattle.register.specs.Calls.{fresh, answered}
 use Rattle.register.specs.Steps.{Move}
-use Rattle.register.specs.History.{Deed, read-began, write-began, went-on, looked, published, read-ended, write-ended}
+use Rattle.register.specs.History.{Deed, read-began, write-began, went-on, looked, published, read-ended}
+use Rattle.register.specs.History.{write-ended}
 use Rattle.register.specs.History.{after, Accepted, none, then, event, events}
-use Rattle.register.specs.History.{Read, History, noted, all-noted, nothing-yet, history}
-use Rattle.register.specs.Demands.{Run, beginning, now, told, Promise, Demand3, NeverStuck, UnderWay, Ends}
-use Rattle.register.proofs.Tests.{true-passes, both, if-true, each-follows, eqb-equal, eqb-other}
-use Rattle.register.proofs.Moves.{Does, by}
+use Rattle.register.specs.History.{Read, History, noted, all-noted, nothing-yet}
+use Rattle.register.specs.Demands.{Run, beginning, now, told, Promise, Demand3}
+use Rattle.register.proofs.Tests.{each-follows}
+use Rattle.register.proofs.Moves.{Does}
 use Rattle.register.proofs.Counting.{Counted, keeps-counts}
 use Rattle.register.proofs.Clean.{Clean, stays-clean}
 use Rattle.register.proofs.Lining.{in-line}
-use Rattle.register.proofs.Telling.{Told, tells}
+use Rattle.register.proofs.Told.{Told}
+use Rattle.register.proofs.Telling.{tells}
 use Rattle.register.proofs.Bounds.{ReadExact, Bounded, keeps-bounds}
 use Rattle.register.proofs.Dates.{Dated, keeps-dates}
-use Rattle.register.proofs.Planned.{seen}
-use Rattle.register.proofs.Called.{InRange, range-facts, Opened, opened, whole-area, sound-area, does, after-head, after-area, after-memory, after-sound}
+use Rattle.register.proofs.Called.{InRange, Opened, opened, does}
+use Rattle.register.proofs.Called.{after-head, after-area, after-memory, after-sound}
 use Rattle.register.proofs.Observed.{observed}
 use Rattle.register.proofs.Made.{made-well, fresh-memory, fresh-sound}
 use Rattle.register.proofs.Making.{first-memory, fresh-readers, fresh-capacity, fresh-area}
@@ -119,7 +121,8 @@ module _ (n c : ℕ) (first : Record) (range : InRange n c) where
         same = after-memory o
 
   -- all accepted moves
-  pub run-good : {all-moves : ℕ} (a : List ℕ) (l : List Move) (h : History) → Accepted a l → h .moves + length l ≡ all-moves
+  pub run-good : {all-moves : ℕ} (a : List ℕ) (l : List Move) (h : History) → Accepted a l → h .moves + length l
+      ≡ all-moves
       → Good n c first all-moves a h → Good n c first all-moves (after a l) (all-noted all-moves h (events a l))
   run-good a [] h none e g = g
   run-good {all-moves = all-moves} a (x ∷ l) h (then z rest) e g =

@@ -1,16 +1,17 @@
 -- Document 01's small runs marked P, computed from the definitions: one statement over one table. Assumes nothing.
 use mathlib.Core.Path.{_≡_, refl}
-use mathlib.Core.Bool.{Bool, true, false, cond}
+use mathlib.Core.Bool.{Bool, true, false}
 use mathlib.Core.List.{List, [], _∷_, _++_, map}
-use Prim.Native.Nat.{ℕ, zero, suc, _+_}
-use lib.ListN.{length, getD, take, replicate}
+use Prim.Native.Nat.{ℕ}
+use lib.ListN.{getD, take, replicate}
 use Rattle.register.specs.Place.{Record}
 use Rattle.register.specs.Table.{total}
-use Rattle.register.specs.Area.{form1, current, in-hand, is-area, slot-sound, desk-sound, writer-sound, undamaged, memory}
+use Rattle.register.specs.Area.{form1, current, in-hand, is-area, slot-sound, desk-sound, writer-sound}
+use Rattle.register.specs.Area.{undamaged, memory}
 use Rattle.register.specs.Steps.{reader-step, writer-step, Move, read, write, step}
-use Rattle.register.specs.Calls.{Answer, fresh, made, carried-out, answered, is-own, shown}
+use Rattle.register.specs.Calls.{Answer, fresh, carried-out, answered, is-own, shown}
 use Rattle.register.specs.Demands.{Each, none, also}
-use Rattle.register.specs.History.{after, Read, Write, history}
+use Rattle.register.specs.History.{after, history}
 
 -- the answer to a move after some others
 abbrev pub answer-to : List ℕ → List Move → Move → Answer
@@ -70,7 +71,8 @@ small-runs =
     ∷ row-of (current-word (after areaP1 (read 0 ∷ step 0 ∷ step 0 ∷ step 0 ∷ [])) ∷ []) (1 ∷ [])
     -- P7: the looks, newest first; the slot of each write
     ∷ row-of (map (λ w. w .looks) (history areaP1 two-writes .writes)) (3 ∷ 2 ∷ [])
-    ∷ row-of (memory (after areaP1 (written (8 ∷ []) 8)) in-hand ∷ memory (after areaP1 two-writes) in-hand ∷ []) (1 ∷ 2 ∷ [])
+    ∷ row-of (memory (after areaP1 (written (8 ∷ []) 8)) in-hand ∷ memory (after areaP1 two-writes) in-hand ∷ [])
+    (1 ∷ 2 ∷ [])
     -- P8
     ∷ row-of (said (answer-to areaP8 paused (step 0))) (0 ∷ 1 ∷ 2 ∷ 1 ∷ 2 ∷ [])
     -- P9

@@ -1,97 +1,20 @@
 -- An accepted move leaves an undamaged memory undamaged, wherever it came from. Assumes nothing.
-use mathlib.Core.Path.{_≡_, refl}
-use mathlib.Core.Logic.{_≢_}
-use mathlib.Core.Bool.{Bool, true, false, cond}
-use mathlib.Core.List.{List, [], _∷_, _++_}
-use Prim.Native.Nat.{ℕ, suc, _+_, _*_, _≤_, _<_}
+use mathlib.Core.Path.{_≡_}
+use mathlib.Core.List.{_++_}
+use Prim.Native.Nat.{ℕ, suc, _*_, _≤_, _<_}
 use native.Mathlib.Omega.{arith}
-use lib.Dec.{eqb}
 use Rattle.register.specs.Place.{Memory, apply}
-use Rattle.register.specs.Area.{current, index, counter, r-start, r-end, size, limit, most-writes}
-use Rattle.register.specs.Area.{phase, last, pos, len, finished, writer-phase, in-hand, writer-pos, writer-len, old-word, writes-ended}
-use Rattle.register.specs.Steps.{turns, unbinds, binds, takes, copies, finishes, sizes, clears-start, clears-end, publishes, freezes}
+use Rattle.register.specs.Area.{current, index, counter, r-start, r-end, size, limit}
+use Rattle.register.specs.Area.{phase, last, pos, len, finished, in-hand, writer-pos}
+use Rattle.register.specs.Area.{old-word}
+use Rattle.register.specs.Steps.{turns, unbinds, binds, takes, copies, finishes, sizes, clears-start}
+use Rattle.register.specs.Steps.{clears-end, freezes}
 use Rattle.register.specs.History.{Event}
 use Rattle.register.proofs.Tests.{eqb-same, eqb-other, at-each}
 use Rattle.register.proofs.Moves
-use Rattle.register.proofs.Moves.{Does, to-phase, fills-to}
-use Rattle.register.proofs.Whole.{WordWhole, SlotWhole, DeskWhole, WriterWhole, Slot, Desk, Whole}
-
--- ---- the writer's desk in a later phase
-module _ {n c phase last hand pos len old ended : ℕ} (v : WriterWhole n c phase last hand pos len old ended) where
-  further : (k pos′ old′ : ℕ) → phase ≢ 0 → 3 ≤ k → k ≤ 7 → pos′ ≤ len → WordWhole n old′
-      → WriterWhole n c k last hand pos′ len old′ ended
-  further k pos′ old′ busy lo hi part before =
-      record {
-        phases = hi;
-        last-one = v .last-one;
-        hand-one = v .hand-one;
-        part = part;
-        words = v .words;
-        before = before;
-        copying = λ e. absurd (omega arith);
-        unmoved = λ e. absurd (omega arith);
-        room = λ d. v .room busy;
-      }
-
-  -- it copies
-  copying-on : (pos′ : ℕ) → phase ≢ 0 → pos′ < len → WriterWhole n c 2 last hand pos′ len old ended
-  copying-on pos′ busy more =
-      record {
-        phases = omega arith;
-        last-one = v .last-one;
-        hand-one = v .hand-one;
-        part = omega arith;
-        words = v .words;
-        before = v .before;
-        copying = λ e. more;
-        unmoved = λ e. absurd (omega arith);
-        room = λ d. v .room busy;
-      }
-
-  -- it looks on
-  scanning-on : (hand′ : ℕ) → phase ≡ 1 → hand′ < n + 2 → WriterWhole n c phase last hand′ pos len old ended
-  scanning-on hand′ e l =
-      record {
-        phases = v .phases;
-        last-one = v .last-one;
-        hand-one = l;
-        part = v .part;
-        words = v .words;
-        before = v .before;
-        copying = v .copying;
-        unmoved = v .unmoved;
-        room = v .room;
-      }
-
-  -- it begins
-  beginning : (len′ : ℕ) → len′ ≤ c → ended < most-writes → WriterWhole n c 1 last 0 0 len′ old ended
-  beginning len′ l more =
-      record {
-        phases = omega arith;
-        last-one = v .last-one;
-        hand-one = omega arith;
-        part = omega arith;
-        words = l;
-        before = v .before;
-        copying = λ e. absurd (omega arith);
-        unmoved = λ e. refl;
-        room = λ d. more;
-      }
-
-  -- it ends
-  ending : WriterWhole n c 0 hand hand pos len old (suc ended)
-  ending =
-      record {
-        phases = omega arith;
-        last-one = v .hand-one;
-        hand-one = v .hand-one;
-        part = v .part;
-        words = v .words;
-        before = v .before;
-        copying = λ e. absurd (omega arith);
-        unmoved = λ e. absurd (omega arith);
-        room = λ d. absurd (d refl);
-      }
+use Rattle.register.proofs.Moves.{Does}
+use Rattle.register.proofs.Whole.{SlotWhole, DeskWhole, Slot, Desk, Whole}
+use Rattle.register.proofs.WriterDesk.{further, copying-on, scanning-on, beginning, ending}
 
 module _ (n c : ℕ) (big : n < 4294967296) where
   -- ---- one reader's desk in another phase
@@ -101,14 +24,23 @@ module _ (n c : ℕ) (big : n < 4294967296) where
         record {
           word = v .word;
           slot = v .slot;
-          desk = at-each (Desk n c (apply m (turns r k))) r (rw (eqb-same r) own) (λ q h d. rw (eqb-other q r d) (v .desk q h));
+          desk = at-each (Desk n c (apply m (turns r k))) r (rw (eqb-same r) own)
+              (λ q h d. rw (eqb-other q r d) (v .desk q h));
           writer = v .writer;
         }
       where
         own : DeskWhole n c k (m (last r)) (m (pos r)) (m (len r)) (m (finished r))
         own =
             let d = v .desk r l in
-            record { phases = omega arith; slot = d .slot; part = d .part; words = d .words; flag = d .flag; copying = λ e. absurd (omega arith) }
+            record {
+              phases = omega arith;
+              slot = d .slot;
+              part = d .part;
+              words = d .words;
+              flag = d .flag;
+              copying =
+                  λ e. absurd (omega arith);
+            }
 
     leaving : (r : ℕ) → r < n → m (r-end (m (last r))) < limit n → Whole n c (apply m (unbinds m r))
     leaving r l more =
@@ -122,14 +54,16 @@ module _ (n c : ℕ) (big : n < 4294967296) where
         }
       where
         own : SlotWhole n c (m (r-start (m (last r)))) (suc (m (r-end (m (last r))))) (m (size (m (last r))))
-        own = let s = v .slot (m (last r)) (v .desk r l .slot) in record { start = s .start; end = more; words = s .words }
+        own = let s =
+            v .slot (m (last r)) (v .desk r l .slot) in record { start = s .start; end = more; words = s .words }
 
     joining : (r : ℕ) → r < n → counter (m current) < limit n → Whole n c (apply m (binds m r))
     joining r l more =
         record {
           word = record { slot = rw same (v .word .slot); count = rw counted more };
           slot = v .slot;
-          desk = at-each (Desk n c (apply m (binds m r))) r (rw (eqb-same r) own) (λ q h d. rw (eqb-other q r d) (v .desk q h));
+          desk = at-each (Desk n c (apply m (binds m r))) r (rw (eqb-same r) own)
+              (λ q h d. rw (eqb-other q r d) (v .desk q h));
           writer = v .writer;
         }
       where
@@ -253,7 +187,8 @@ module _ (n c : ℕ) (big : n < 4294967296) where
         word = v .word;
         slot = v .slot;
         desk = v .desk;
-        writer = further (v .writer) 3 _ (m old-word) (λ z. omega arith) (omega arith) (omega arith) (v .writer .copying e)
+        writer = further (v .writer) 3 _ (m old-word) (λ z. omega arith) (omega arith) (omega arith)
+            (v .writer .copying e)
             (v .writer .before);
       }
   stays-whole {m = m} v (Moves.sets-size e) =
@@ -261,7 +196,8 @@ module _ (n c : ℕ) (big : n < 4294967296) where
         word = v .word;
         slot = at-each (Slot n c (apply m (sizes m))) (m in-hand)
             (rw (eqb-same (m in-hand))
-            (let s = v .slot (m in-hand) (v .writer .hand-one) in record { start = s .start; end = s .end; words = v .writer .words }))
+            (let s = v .slot (m in-hand)
+            (v .writer .hand-one) in record { start = s .start; end = s .end; words = v .writer .words }))
             (λ s h d. rw (eqb-other s (m in-hand) d) (v .slot s h));
         desk = v .desk;
         writer = further (v .writer) 4 (m writer-pos) (m old-word) (λ z. omega arith) (omega arith) (omega arith)
@@ -272,7 +208,8 @@ module _ (n c : ℕ) (big : n < 4294967296) where
         word = v .word;
         slot = at-each (Slot n c (apply m (clears-start m))) (m in-hand)
             (rw (eqb-same (m in-hand))
-            (let s = v .slot (m in-hand) (v .writer .hand-one) in record { start = omega arith; end = s .end; words = s .words }))
+            (let s = v .slot (m in-hand)
+            (v .writer .hand-one) in record { start = omega arith; end = s .end; words = s .words }))
             (λ s h d. rw (eqb-other s (m in-hand) d) (v .slot s h));
         desk = v .desk;
         writer = further (v .writer) 5 (m writer-pos) (m old-word) (λ z. omega arith) (omega arith) (omega arith)
@@ -283,7 +220,8 @@ module _ (n c : ℕ) (big : n < 4294967296) where
         word = v .word;
         slot = at-each (Slot n c (apply m (clears-end m))) (m in-hand)
             (rw (eqb-same (m in-hand))
-            (let s = v .slot (m in-hand) (v .writer .hand-one) in record { start = s .start; end = omega arith; words = s .words }))
+            (let s = v .slot (m in-hand)
+            (v .writer .hand-one) in record { start = s .start; end = omega arith; words = s .words }))
             (λ s h d. rw (eqb-other s (m in-hand) d) (v .slot s h));
         desk = v .desk;
         writer = further (v .writer) 6 (m writer-pos) (m old-word) (λ z. omega arith) (omega arith) (omega arith)

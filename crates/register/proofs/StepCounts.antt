@@ -29,7 +29,8 @@ first-step = record { early = λ x y. refl; bound = λ x. absurd (omega arith); 
 
 module _ {made phase pos : ℕ} (v : ReaderSteps made phase pos) where
   -- reader steps 1 and 2, to the next phase
-  pub step-on : {pos′ : ℕ} (phase′ : ℕ) → 1 ≤ phase → phase′ ≤ 3 → phase′ ≡ suc phase → ReaderSteps (suc made) phase′ pos′
+  pub step-on : {pos′ : ℕ} (phase′ : ℕ) → 1 ≤ phase → phase′ ≤ 3 → phase′ ≡ suc phase
+      → ReaderSteps (suc made) phase′ pos′
   step-on phase′ lo hi e =
       record {
         early = λ x y. omega (arith, v .early lo (omega arith));
@@ -59,7 +60,8 @@ module _ {made phase pos : ℕ} (v : ReaderSteps made phase pos) where
       }
 
   -- a read of L words that ends has taken L + 2 or L + 4
-  pub ends-exactly : {k : ℕ} (words : ℕ) → suc k ≡ words + 2 → Turns made k → (suc made ≡ words + 2) ⊎ (suc made ≡ words + 4)
+  pub ends-exactly : {k : ℕ} (words : ℕ) → suc k ≡ words + 2 → Turns made k
+      → (suc made ≡ words + 2) ⊎ (suc made ≡ words + 4)
   ends-exactly words e (inl x) = inl (omega arith)
   ends-exactly words e (inr x) = inr (omega arith)
 
@@ -92,7 +94,8 @@ pub record WriterSteps (n looks made phase hand len pos new seen : ℕ) : Type 0
   pub told : phase ≡ 7 → (made ≡ looks + len + 4) × (len ≡ new) × (looks ≡ seen)
 
 module _ {n looks made phase hand len pos new seen : ℕ} (v : WriterSteps n looks made phase hand len pos new seen) where
-  pub look-finds : (phase′ : ℕ) → phase ≡ 1 → hand < n + 2 → (phase′ ≡ 2 → pos ≡ 0) → (phase′ ≡ 3 → len ≡ 0) → 2 ≤ phase′ → phase′ ≤ 3
+  pub look-finds : (phase′ : ℕ) → phase ≡ 1 → hand < n + 2 → (phase′ ≡ 2 → pos ≡ 0) → (phase′ ≡ 3 → len ≡ 0) → 2
+      ≤ phase′ → phase′ ≤ 3
       → WriterSteps n (suc looks) (suc made) phase′ hand len pos new seen
   look-finds phase′ e l z z′ lo hi =
       record {
@@ -133,7 +136,8 @@ module _ {n looks made phase hand len pos new seen : ℕ} (v : WriterSteps n loo
         told = λ x. absurd (omega arith);
       }
 
-  pub next-step : (phase′ : ℕ) → 3 ≤ phase → phase ≤ 5 → phase′ ≡ suc phase → WriterSteps n looks (suc made) phase′ hand len pos new seen
+  pub next-step : (phase′ : ℕ) → 3 ≤ phase → phase ≤ 5 → phase′ ≡ suc phase
+      → WriterSteps n looks (suc made) phase′ hand len pos new seen
   next-step phase′ lo hi e =
       record {
         scanned = λ x. absurd (omega arith);

@@ -74,7 +74,8 @@ sum-hole (suc n) f h = go (λ k. sum-hole n f k) (ℕ-discrete (f n) 0)
         (i, omega arith, e)
 
 -- n readers that are bound to one slot each at most leave one of n + 2 slots unbound beside slot i
-pub spare : (n i : ℕ) (bound : ℕ → ℕ) → i < n + 2 → sum (n + 2) bound ≤ n → (s : ℕ) × (s < n + 2) × (s ≢ i) × (bound s ≡ 0)
+pub spare : (n i : ℕ) (bound : ℕ → ℕ) → i < n + 2 → sum (n + 2) bound ≤ n → (s : ℕ) × (s < n + 2) × (s ≢ i)
+    × (bound s ≡ 0)
 spare n i bound l few =
     found (sum-hole (n + 2) taken (omega (arith, sum-one (n + 2) taken bound i l elsewhere, hit i 1 (bound i))))
   where

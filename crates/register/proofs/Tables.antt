@@ -3,19 +3,19 @@
 use mathlib.Core.Path.{_≡_, refl, sym, ap, ap₂, subst, _∙_, fun-ext}
 use mathlib.Core.Logic.{_≢_}
 use mathlib.Core.Bool.{Bool, true, false, cond, _&&_}
-use mathlib.Core.List.{List, [], _∷_, _++_}
+use mathlib.Core.List.{List, [], _∷_}
 use Prim.Native.Nat.{ℕ, zero, suc, _+_, _*_, _≤_, _<_}
 use native.Mathlib.Nat.{mul-le-mul-right}
 use native.Mathlib.Decide.{ℕ-discrete, decLt}
 use native.Mathlib.Omega.{arith}
-use lib.Dec.{T, eqb, ltb, ltb→lt, lt→ltb, eqb→eq, eqb-refl}
-use lib.ListN.{length, getD, set, length-set, take, drop}
+use lib.Dec.{T, eqb, ltb, ltb→lt, eqb→eq}
+use lib.ListN.{length, getD, set, length-set, take}
 use lib.Seq.{getD-set-same, getD-set-other, drop-cons}
-use Rattle.register.specs.Place.{Record, Place, Memory, changed, Store, apply, copied}
+use Rattle.register.specs.Place.{Place, changed, Store, apply}
 use Rattle.register.specs.Table.{Table, width, base, total, address, has, view, store}
 use Rattle.register.specs.Calls.{words-from}
-use Rattle.register.specs.Demands.{Each, none, also, Untouched}
-use Rattle.register.proofs.Tests.{passed, both, joined, eqb-equal, eqb-other, ltb-below, true-passes}
+use Rattle.register.specs.Demands.{Each, also, Untouched}
+use Rattle.register.proofs.Tests.{both, eqb-equal, eqb-other, ltb-below, true-passes}
 use Rattle.register.proofs.Places.{place-equal, place-discrete, changed-here, changed-elsewhere, row, row-same}
 
 -- ---- rows of one width
@@ -58,7 +58,9 @@ module _ (t : Table) where
       go (ltb→lt _ _ x) (ltb→lt _ _ y) w (ℕ-discrete (p .field) (t .singles (p .part)))
     where
       Last : Bool → Type 0
-      Last b = T (cond b (ltb (p .column) (t .last-words (p .part))) (ltb (p .field) (t .singles (p .part)) && eqb (p .column) 0))
+      Last b = T
+          (cond b (ltb (p .column) (t .last-words (p .part)))
+          (ltb (p .field) (t .singles (p .part)) && eqb (p .column) 0))
 
       go : p .part < t .parts → p .row < t .rows (p .part) → Last (eqb (p .field) (t .singles (p .part)))
           → Dec (p .field ≡ t .singles (p .part)) → Has p
@@ -85,7 +87,8 @@ module _ (t : Table) where
           ≡ true
       go (yes e) = rw (eqb-equal _ _ e) (ltb-below _ _ (h .many e))
       go (no d) =
-          rw (eqb-other _ _ d, ltb-below (p .field) (t .singles (p .part)) (omega (arith, h .field))) (eqb-equal (p .column) 0 (h .single d))
+          rw (eqb-other _ _ d, ltb-below (p .field) (t .singles (p .part)) (omega (arith, h .field)))
+          (eqb-equal (p .column) 0 (h .single d))
 
   -- ---- addresses
 
@@ -129,7 +132,8 @@ module _ (t : Table) where
           at-part : ℕ → Type 0
           at-part g = address t p ≡ base t g + (q .row * width t g + (q .field + q .column))
 
-          level : p .row * width t (p .part) + (p .field + p .column) ≡ q .row * width t (p .part) + (q .field + q .column)
+          level : p .row * width t (p .part) + (p .field + p .column)
+              ≡ q .row * width t (p .part) + (q .field + q .column)
           level = omega (arith, subst at-part (sym part) e)
 
           row : (p .row ≡ q .row) × (p .field + p .column ≡ q .field + q .column) → p ≡ q
@@ -155,11 +159,13 @@ module _ (t : Table) where
       other : (b : Bool) → has t q ≡ b → q ≢ p
           → cond b (getD (set a (address t p) x) (address t q) 0) 0 ≡ cond b (getD a (address t q) 0) 0
       other true e d =
-          getD-set-other a (address t p) (address t q) x 0 (λ y. d (addresses-apart q p (has-of q (true-passes _ e)) h y))
+          getD-set-other a (address t p) (address t q) x 0
+          (λ y. d (addresses-apart q p (has-of q (true-passes _ e)) h y))
       other false e d = refl
 
       here : view t (set a (address t p) x) p ≡ x
-      here = view-here (set a (address t p) x) p h ∙ getD-set-same a (address t p) x 0 (omega (arith, address-within p h))
+      here = view-here (set a (address t p) x) p h
+          ∙ getD-set-same a (address t p) x 0 (omega (arith, address-within p h))
 
       go : Dec (q ≡ p) → view t (set a (address t p) x) q ≡ changed (view t a) p x q
       go (yes e) = rw e (here ∙ sym (changed-here (view t a) p x))

@@ -1,29 +1,36 @@
--- What the memory holds and what the run has told: the slots that matter hold whole writes, and each finished read is placed.
+-- What the memory holds and what the run has told: the slots that matter hold whole writes, and each finished read is
+-- placed.
 -- Assumes nothing.
 use mathlib.Core.Path.{_≡_, refl, sym, _∙_}
 use mathlib.Core.Logic.{_≢_}
-use mathlib.Core.Bool.{Bool, true, false, cond}
-use mathlib.Core.List.{List, [], _∷_, _++_}
-use Prim.Native.Nat.{ℕ, suc, _+_, _*_, _≤_, _<_}
+use mathlib.Core.Bool.{false, cond}
+use mathlib.Core.List.{[], _++_}
+use Prim.Native.Nat.{ℕ, suc, _*_, _≤_, _<_}
 use native.Mathlib.Omega.{arith}
-use lib.Dec.{T, eqb, ltb, lt→ltb}
+use lib.Dec.{eqb, ltb}
 use lib.ListN.{length, getD}
 use Rattle.register.specs.Place.{Record, Memory, apply}
-use Rattle.register.specs.Area.{current, index, size, slot-write-number, contents, phase, last, pos, len, desk-write-number, read-record}
+use Rattle.register.specs.Area.{current, index, size, slot-write-number, contents, phase, last, pos, len}
+use Rattle.register.specs.Area.{desk-write-number, read-record}
 use Rattle.register.specs.Area.{writer-phase, in-hand, writer-pos, writer-len, writes-ended, write-record}
 use Rattle.register.specs.Steps.{turns, unbinds, binds, takes, copies, finishes}
-use Rattle.register.specs.History.{Deed, Event, read-began, write-began, went-on, looked, published, read-ended, write-ended}
-use Rattle.register.specs.History.{Write, History, closed, noted}
+use Rattle.register.specs.History.{Deed, Event, read-began, write-began, went-on, looked, published, read-ended}
+use Rattle.register.specs.History.{write-ended}
+use Rattle.register.specs.History.{History, noted}
 use Rattle.register.proofs.Tests.{hit, miss, eqb-same, eqb-other, ltb-below, at-each}
 use Rattle.register.proofs.Places.{row, row-same, row-record}
-use Rattle.register.proofs.Placed.{Sound, sound-noted, began-noted, Needs, where-later, where-published, where-closed}
-use Rattle.register.proofs.Placed.{length-closed, newest, newest-closed}
+use Rattle.register.proofs.Placed.{Sound, sound-noted, began-noted, Needs, where-published}
+use Rattle.register.proofs.Placed.{where-closed}
+use Rattle.register.proofs.Placed.{length-closed, newest-closed}
 use Rattle.register.proofs.Moves
 use Rattle.register.proofs.Moves.{Does, got-now, desk-record, fills-to}
+use Rattle.register.proofs.Told.{Reads, Told}
 use Rattle.register.proofs.Counting.{Counted}
 use Rattle.register.proofs.Held.{unheld, hand-apart}
-use Rattle.register.proofs.Copying.{Reading, reading-later, not-yet, bound-to-newest, copy-starts, no-words, copy-goes-on, copy-ends}
-use Rattle.register.proofs.Copying.{Writing, write-begins, slot-found, words-there, slot-passed, fill-goes-on, fill-ends}
+use Rattle.register.proofs.Copying.{Reading, reading-later, not-yet, bound-to-newest, copy-starts, no-words}
+use Rattle.register.proofs.Copying.{copy-goes-on, copy-ends}
+use Rattle.register.proofs.Copying.{Writing, write-begins, slot-found, words-there, slot-passed, fill-goes-on}
+use Rattle.register.proofs.Copying.{fill-ends}
 use Rattle.register.proofs.Copying.{published-whole, publishes-it, ends-it}
 
 high : 4 < 7
@@ -36,30 +43,8 @@ desk-holds u f =
     (λ j l. rw (ltb-below j (length u) l)) ∙ row-record u
 
 module _ (n : ℕ) (first : Record) where
-  abbrev pub Reads : Memory → History → ℕ → Type 0
-  Reads m h r =
-      Reading 4 first (h .began r) (h .moves) (h .writes) (m (phase r)) (m (len r)) (m (pos r)) (m (desk-write-number r))
-      (λ j. m (read-record r j)) (m (size (m (last r)))) (m (slot-write-number (m (last r)))) (λ j. m (contents (m (last r)) j))
-
-  abbrev pub Writes : Memory → History → Type 0
-  Writes m h =
-      Writing 7 (h .given) (length (h .writes)) (m writer-phase) (m writer-len) (m writer-pos) (m writes-ended)
-      (λ j. m (write-record j)) (m (size (m in-hand))) (m (slot-write-number (m in-hand))) (λ j. m (contents (m in-hand) j))
-
-  -- the current slot holds the newest write, whole, and its number
-  abbrev pub Newest : Memory → List Write → Type 0
-  Newest m writes =
-      (row (m (size (index (m current)))) (λ j. m (contents (index (m current)) j)) ≡ newest first writes)
-      × (m (slot-write-number (index (m current))) ≡ length writes)
-
-  pub record Told (m : Memory) (h : History) : Type 0 where
-    pub sound : Sound first h
-    pub began : (p : ℕ) → h .began p ≤ h .moves
-    pub newest-one : Newest m (h .writes)
-    pub reader : (r : ℕ) → r < n → Reads m h r
-    pub writer : Writes m h
-
-  module _ (big : n < 4294967296) (total : ℕ) {m : Memory} {h : History} (i : Counted n m) (v : Told m h) (t : h .moves < total) where
+  module _ (big : n < 4294967296) (total : ℕ) {m : Memory} {h : History} (i : Counted n m) (v : Told n first m h)
+      (t : h .moves < total) where
     sound-on : (p : ℕ) (deed : Deed) → Needs first h p deed → Sound first (noted total h p deed)
     sound-on p deed needs = sound-noted first total h p deed (v .began p) t needs (v .sound)
 
@@ -67,7 +52,8 @@ module _ (n : ℕ) (first : Record) where
     began-on p deed = began-noted total h p deed (v .began)
 
     -- what reader r is bound to once it finds, or binds, the current slot
-    newly-bound : (r : ℕ) → Reading 4 first (h .began r) (suc (h .moves)) (h .writes) 4 (m (len r)) (m (pos r)) (m (desk-write-number r))
+    newly-bound : (r : ℕ)
+        → Reading 4 first (h .began r) (suc (h .moves)) (h .writes) 4 (m (len r)) (m (pos r)) (m (desk-write-number r))
         (λ j. m (read-record r j)) (m (size (index (m current)))) (m (slot-write-number (index (m current))))
         (λ j. m (contents (index (m current)) j))
     newly-bound r =
@@ -98,12 +84,13 @@ module _ (n : ℕ) (first : Record) where
     not-current : 2 ≤ m writer-phase → m writer-phase ≤ 6 → eqb (index (m current)) (m in-hand) ≡ false
     not-current lo hi = eqb-other (index (m current)) (m in-hand) (λ y. hand-apart n m i lo hi (sym y))
 
-    not-bound : (q : ℕ) → q < n → 2 ≤ m writer-phase → m writer-phase ≤ 6 → 4 ≤ m (phase q) → eqb (m (last q)) (m in-hand) ≡ false
+    not-bound : (q : ℕ) → q < n → 2 ≤ m writer-phase → m writer-phase ≤ 6 → 4 ≤ m (phase q)
+        → eqb (m (last q)) (m in-hand) ≡ false
     not-bound q k lo hi y = eqb-other (m (last q)) (m in-hand) (unheld n m i lo hi q k (λ z. omega arith))
 
     -- writer step 2 is in no reader's way
     filled-elsewhere : 2 ≤ m writer-phase → m writer-phase ≤ 6 → (k : ℕ) → (q : ℕ) → q < n
-        → Reads (apply m (fills-to m k)) (noted total h n (went-on 2)) q
+        → Reads n first (apply m (fills-to m k)) (noted total h n (went-on 2)) q
     filled-elsewhere lo hi k q l =
         record {
           bound = λ y. rw (not-bound q l lo hi y) (reading-later (v .reader q l) .bound y);
@@ -112,19 +99,23 @@ module _ (n : ℕ) (first : Record) where
 
     -- writer steps 4 and 5 leave size, number and words as they are
     cleared-on : (k : ℕ) → 4 ≤ m writer-phase → m writer-phase < 7 → 4 ≤ k → k < 7
-        → Writing 7 (h .given) (length (h .writes)) k (m writer-len) (m writer-pos) (m writes-ended) (λ j. m (write-record j))
+        → Writing 7 (h .given) (length (h .writes)) k (m writer-len) (m writer-pos) (m writes-ended)
+        (λ j. m (write-record j))
         (m (size (m in-hand))) (m (slot-write-number (m in-hand))) (λ j. m (contents (m in-hand) j))
     cleared-on k lo hi lo′ hi′ =
-        words-there (v .writer) high k (m writer-pos) (λ j. m (contents (m in-hand) j)) (omega arith) (omega arith) (omega arith)
-        (omega arith) (v .writer .filled (omega arith) (omega arith)) (λ z. v .writer .sized (omega arith) (omega arith))
+        words-there (v .writer) high k (m writer-pos) (λ j. m (contents (m in-hand) j)) (omega arith) (omega arith)
+        (omega arith)
+        (omega arith) (v .writer .filled (omega arith) (omega arith))
+        (λ z. v .writer .sized (omega arith) (omega arith))
 
-    pub tells : {c : ℕ} {e : Event} {m′ : Memory} → Does n c m e m′ → Told m′ (noted total h (e .who) (e .what))
+    pub tells : {c : ℕ} {e : Event} {m′ : Memory} → Does n c m e m′ → Told n first m′ (noted total h (e .who) (e .what))
     tells (Moves.read-starts r l e) =
         record {
           sound = sound-on r read-began tt;
           began = began-on r read-began;
           newest-one = v .newest-one;
-          reader = at-each (Reads (apply m (turns r 1)) (noted total h r read-began)) r (rw (eqb-same r) (not-yet 1 (omega arith)))
+          reader = at-each (Reads n first (apply m (turns r 1)) (noted total h r read-began)) r
+              (rw (eqb-same r) (not-yet 1 (omega arith)))
               (λ q k d. rw (eqb-other q r d) (reading-later (v .reader q k)));
           writer = v .writer;
         }
@@ -133,7 +124,8 @@ module _ (n : ℕ) (first : Record) where
           sound = sound-on r (went-on 1) tt;
           began = began-on r (went-on 1);
           newest-one = v .newest-one;
-          reader = at-each (Reads (apply m (turns r 4)) (noted total h r (went-on 1))) r (rw (eqb-same r) (rw (← x) (newly-bound r)))
+          reader = at-each (Reads n first (apply m (turns r 4)) (noted total h r (went-on 1))) r
+              (rw (eqb-same r) (rw (← x) (newly-bound r)))
               (λ q k d. rw (eqb-other q r d) (reading-later (v .reader q k)));
           writer = v .writer;
         }
@@ -142,7 +134,8 @@ module _ (n : ℕ) (first : Record) where
           sound = sound-on r (went-on 1) tt;
           began = began-on r (went-on 1);
           newest-one = v .newest-one;
-          reader = at-each (Reads (apply m (turns r 2)) (noted total h r (went-on 1))) r (rw (eqb-same r) (not-yet 2 (omega arith)))
+          reader = at-each (Reads n first (apply m (turns r 2)) (noted total h r (went-on 1))) r
+              (rw (eqb-same r) (not-yet 2 (omega arith)))
               (λ q k d. rw (eqb-other q r d) (reading-later (v .reader q k)));
           writer = v .writer;
         }
@@ -151,7 +144,8 @@ module _ (n : ℕ) (first : Record) where
           sound = sound-on r (went-on 2) tt;
           began = began-on r (went-on 2);
           newest-one = v .newest-one;
-          reader = at-each (Reads (apply m (unbinds m r)) (noted total h r (went-on 2))) r (rw (eqb-same r) (not-yet 3 (omega arith)))
+          reader = at-each (Reads n first (apply m (unbinds m r)) (noted total h r (went-on 2))) r
+              (rw (eqb-same r) (not-yet 3 (omega arith)))
               (λ q k d. rw (eqb-other q r d) (reading-later (v .reader q k)));
           writer = v .writer;
         }
@@ -161,7 +155,8 @@ module _ (n : ℕ) (first : Record) where
           sound = sound-on r (went-on 3) tt;
           began = began-on r (went-on 3);
           newest-one = rw same (v .newest-one);
-          reader = at-each (Reads (apply m (binds m r)) (noted total h r (went-on 3))) r (rw (eqb-same r, same) (newly-bound r))
+          reader = at-each (Reads n first (apply m (binds m r)) (noted total h r (went-on 3))) r
+              (rw (eqb-same r, same) (newly-bound r))
               (λ q k d. rw (eqb-other q r d) (reading-later (v .reader q k)));
           writer = v .writer;
         }
@@ -171,8 +166,9 @@ module _ (n : ℕ) (first : Record) where
           sound = sound-on r (read-ended g) (no-words (v .reader r l) e x);
           began = began-on r (read-ended g);
           newest-one = v .newest-one;
-          reader = at-each (Reads (apply m (takes m r ++ finishes r)) (noted total h r (read-ended g))) r
-              (rw (eqb-same r) (not-yet 0 (omega arith))) (λ q k d. rw (eqb-other q r d) (reading-later (v .reader q k)));
+          reader = at-each (Reads n first (apply m (takes m r ++ finishes r)) (noted total h r (read-ended g))) r
+              (rw (eqb-same r) (not-yet 0 (omega arith)))
+              (λ q k d. rw (eqb-other q r d) (reading-later (v .reader q k)));
           writer = v .writer;
         }
     tells (Moves.takes-size r l e x) =
@@ -180,8 +176,9 @@ module _ (n : ℕ) (first : Record) where
           sound = sound-on r (went-on 4) tt;
           began = began-on r (went-on 4);
           newest-one = v .newest-one;
-          reader = at-each (Reads (apply m (takes m r ++ turns r 5)) (noted total h r (went-on 4))) r
-              (rw (eqb-same r) (copy-starts (v .reader r l) e x)) (λ q k d. rw (eqb-other q r d) (reading-later (v .reader q k)));
+          reader = at-each (Reads n first (apply m (takes m r ++ turns r 5)) (noted total h r (went-on 4))) r
+              (rw (eqb-same r) (copy-starts (v .reader r l) e x))
+              (λ q k d. rw (eqb-other q r d) (reading-later (v .reader q k)));
           writer = v .writer;
         }
     tells (Moves.copies-word r l e x) =
@@ -189,7 +186,7 @@ module _ (n : ℕ) (first : Record) where
           sound = sound-on r (went-on 5) tt;
           began = began-on r (went-on 5);
           newest-one = v .newest-one;
-          reader = at-each (Reads (apply m (copies m r)) (noted total h r (went-on 5))) r
+          reader = at-each (Reads n first (apply m (copies m r)) (noted total h r (went-on 5))) r
               (rw (eqb-same r) (copy-goes-on (v .reader r l) (mine-then r) e x (mine-new r) (mine-kept r)))
               (λ q k d. rw (eqb-other q r d) (reading-later (v .reader q k)));
           writer = v .writer;
@@ -197,11 +194,13 @@ module _ (n : ℕ) (first : Record) where
     tells (Moves.copies-last r l e x) =
         let g = got-now m (m (desk-write-number r)) (desk-record (apply m (copies m r)) r) in
         record {
-          sound = sound-on r (read-ended g) (rw (eqb-same r) (copy-ends (v .reader r l) (mine-then r) e x (mine-new r) (mine-kept r)));
+          sound = sound-on r (read-ended g)
+              (rw (eqb-same r) (copy-ends (v .reader r l) (mine-then r) e x (mine-new r) (mine-kept r)));
           began = began-on r (read-ended g);
           newest-one = v .newest-one;
-          reader = at-each (Reads (apply m (copies m r ++ finishes r)) (noted total h r (read-ended g))) r
-              (rw (eqb-same r) (not-yet 0 (omega arith))) (λ q k d. rw (eqb-other q r d) (reading-later (v .reader q k)));
+          reader = at-each (Reads n first (apply m (copies m r ++ finishes r)) (noted total h r (read-ended g))) r
+              (rw (eqb-same r) (not-yet 0 (omega arith)))
+              (λ q k d. rw (eqb-other q r d) (reading-later (v .reader q k)));
           writer = v .writer;
         }
     tells (Moves.write-starts u l e more) =
@@ -219,7 +218,8 @@ module _ (n : ℕ) (first : Record) where
           began = began-on n looked;
           newest-one = v .newest-one;
           reader = λ q k. reading-later (v .reader q k);
-          writer = words-there (v .writer) high 3 (m writer-pos) (λ j. m (contents (m in-hand) j)) (omega arith) (omega arith)
+          writer = words-there (v .writer) high 3 (m writer-pos) (λ j. m (contents (m in-hand) j)) (omega arith)
+              (omega arith)
               (omega arith) (omega arith) (λ j l. absurd (omega arith)) (λ z. absurd (omega arith));
         }
     tells (Moves.picks-slot e d x y) =
@@ -265,7 +265,8 @@ module _ (n : ℕ) (first : Record) where
                 copied = λ y. rw (not-bound q l (omega arith) (omega arith) (omega arith)) (v .reader q l .copied y);
               };
           writer = rw (eqb-same (m in-hand))
-              (words-there (v .writer) high 4 (m writer-pos) (λ j. m (contents (m in-hand) j)) (omega arith) (omega arith)
+              (words-there (v .writer) high 4 (m writer-pos) (λ j. m (contents (m in-hand) j)) (omega arith)
+              (omega arith)
               (omega arith) (omega arith) (v .writer .filled (omega arith) (omega arith)) (λ z. (refl, refl)));
         }
     tells (Moves.clears-first e) =
@@ -307,6 +308,10 @@ module _ (n : ℕ) (first : Record) where
             v .newest-one .1 ∙ sym (length-closed (h .moves) k (h .writes)),
           );
           reader = λ q l.
-              record { bound = λ y. where-closed (h .moves) k (reading-later (v .reader q l) .bound y); copied = v .reader q l .copied };
+              record {
+                bound = λ y. where-closed (h .moves) k
+                    (reading-later (v .reader q l) .bound y);
+                copied = v .reader q l .copied;
+              };
           writer = rw (length-closed (h .moves) k (h .writes)) (ends-it (v .writer) high e);
         }

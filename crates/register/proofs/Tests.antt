@@ -96,7 +96,8 @@ each-of zero i test t j lo hi = absurd (omega arith)
 each-of (suc k) i test t j lo hi =
     go (both (test i) (every k (suc i) test) t) (λ u l. each-of k (suc i) test u j l (omega arith)) (ℕ-discrete i j)
   where
-    go : T (test i) × T (every k (suc i) test) → (T (every k (suc i) test) → suc i ≤ j → T (test j)) → Dec (i ≡ j) → T (test j)
+    go : T (test i) × T (every k (suc i) test) → (T (every k (suc i) test) → suc i ≤ j → T (test j)) → Dec (i ≡ j)
+        → T (test j)
     go (x, u) rest (yes e) = subst (λ y. T (test y)) e x
     go (x, u) rest (no d) = rest u (omega arith)
 
@@ -129,7 +130,8 @@ pub if-true : {A : Type 0} (P : A → Type 0) (b : Bool) (x y : A) → (b ≡ tr
 if-true P true x y f g = f refl
 if-true P false x y f g = g refl
 
-pub if-equal : {A : Type 0} (P : A → Type 0) (m n : ℕ) (x y : A) → (m ≡ n → P x) → (m ≢ n → P y) → P (cond (eqb m n) x y)
+pub if-equal : {A : Type 0} (P : A → Type 0) (m n : ℕ) (x y : A) → (m ≡ n → P x) → (m ≢ n → P y)
+    → P (cond (eqb m n) x y)
 if-equal P m n x y f g = go (ℕ-discrete m n)
   where
     go : Dec (m ≡ n) → P (cond (eqb m n) x y)
@@ -143,7 +145,8 @@ if-less P m n x y f g = go (ltb m n) refl
     go true e = f (ltb→lt m n (true-passes (ltb m n) e))
     go false e = g (nltb→le m n (rw e tt))
 
-pub if-at-most : {A : Type 0} (P : A → Type 0) (m n : ℕ) (x y : A) → (m ≤ n → P x) → (n < m → P y) → P (cond (leb m n) x y)
+pub if-at-most : {A : Type 0} (P : A → Type 0) (m n : ℕ) (x y : A) → (m ≤ n → P x) → (n < m → P y)
+    → P (cond (leb m n) x y)
 if-at-most P m n x y f g = go (leb m n) refl
   where
     over : leb m n ≡ false → (b : Bool) → ltb n m ≡ b → n < m
@@ -162,7 +165,8 @@ pub data Numbered {A : Type 0} (P : ℕ → A → Type 0) : ℕ → List A → T
   next : {i : ℕ} {x : A} {l : List A} → P i x → Numbered P (suc i) l → Numbered P i (x ∷ l)
 
 -- the entry with number p, counted from i
-pub at-number : {A : Type 0} (P : A → Type 0) (p i j : ℕ) (l : List A) (d : A) → p ≡ i + j → Numbered (λ k x. p ≡ k → P x) i l
+pub at-number : {A : Type 0} (P : A → Type 0) (p i j : ℕ) (l : List A) (d : A) → p ≡ i + j
+    → Numbered (λ k x. p ≡ k → P x) i l
     → (i + length l ≤ p → P d) → P (getD l j d)
 at-number P p i j [] d e end f = f (omega arith)
 at-number P p i zero (x ∷ l) d e (next g s) f = g (omega arith)

@@ -1,15 +1,15 @@
 -- Test 2 as facts: a memory passes it exactly if each slot, desk and word is whole. Assumes nothing.
-use mathlib.Core.Path.{_≡_, refl, sym, subst, _∙_}
+use mathlib.Core.Path.{_≡_, sym, subst, _∙_}
 use mathlib.Core.Logic.{_≢_}
-use mathlib.Core.Bool.{Bool, true, false, _&&_, _||_, not}
-use Prim.Native.Nat.{ℕ, zero, suc, _+_, _≤_, _<_}
+use mathlib.Core.Bool.{false}
+use Prim.Native.Nat.{ℕ, _+_, _≤_, _<_}
 use native.Mathlib.Omega.{arith}
 use lib.Dec.{T, eqb, leb, ltb, eqb→eq, leb→le, le→leb, ltb→lt, lt→ltb}
 use Rattle.register.specs.Place.{Memory}
 use Rattle.register.specs.Area.{current, index, counter, r-start, r-end, size, limit, most-writes}
 use Rattle.register.specs.Area.{phase, last, pos, len, finished}
 use Rattle.register.specs.Area.{writer-phase, last-slot, in-hand, writer-pos, writer-len, old-word, writes-ended}
-use Rattle.register.specs.Area.{all, every, word-sound, slot-sound, desk-sound, writer-sound}
+use Rattle.register.specs.Area.{all, word-sound, slot-sound, desk-sound, writer-sound}
 use Rattle.register.specs.Area.{slot-tests, desk-tests, writer-tests, memory-tests}
 use Rattle.register.specs.Demands.{Each, none, also}
 use Rattle.register.proofs.Tests.{both, joined, each-passes, all-pass}
@@ -53,7 +53,8 @@ module _ (n c : ℕ) (m : Memory) where
 
   abbrev pub Writer : Type 0
   Writer =
-      WriterWhole n c (m writer-phase) (m last-slot) (m in-hand) (m writer-pos) (m writer-len) (m old-word) (m writes-ended)
+      WriterWhole n c (m writer-phase) (m last-slot) (m in-hand) (m writer-pos) (m writer-len) (m old-word)
+      (m writes-ended)
 
   pub record Whole : Type 0 where
     pub word : WordWhole n (m current)
@@ -67,7 +68,8 @@ pub word-of : (n w : ℕ) → T (word-sound n w) → WordWhole n w
 word-of n w t = let (a, b) = both (ltb (index w) (n + 2)) _ t in record { slot = ltb→lt _ _ a; count = leb→le _ _ b }
 
 slot-facts : (n c : ℕ) (m : Memory) (s : ℕ) → Each T (slot-tests n c m s) → Slot n c m s
-slot-facts n c m s (also a (also b (also d none))) = record { start = leb→le _ _ a; end = leb→le _ _ b; words = leb→le _ _ d }
+slot-facts n c m s (also a (also b (also d none))) =
+    record { start = leb→le _ _ a; end = leb→le _ _ b; words = leb→le _ _ d }
 
 desk-facts : (n c : ℕ) (m : Memory) (r : ℕ) → Each T (desk-tests n c m r) → Desk n c m r
 desk-facts n c m r (also a (also b (also d (also e (also f (also g none)))))) =
@@ -100,9 +102,11 @@ memory-facts n c m (also w (also a (also b (also d none)))) =
     record {
       word = word-of n (m current) w;
       slot = λ s l.
-          slot-facts n c m s (each-passes (slot-tests n c m s) (each-of (n + 2) 0 (slot-sound n c m) a s (omega arith) (omega arith)));
+          slot-facts n c m s
+          (each-passes (slot-tests n c m s) (each-of (n + 2) 0 (slot-sound n c m) a s (omega arith) (omega arith)));
       desk = λ r l.
-          desk-facts n c m r (each-passes (desk-tests n c m r) (each-of n 0 (desk-sound n c m) b r (omega arith) (omega arith)));
+          desk-facts n c m r
+          (each-passes (desk-tests n c m r) (each-of n 0 (desk-sound n c m) b r (omega arith) (omega arith)));
       writer = writer-facts n c m (each-passes (writer-tests n c m) d);
     }
 
@@ -112,7 +116,8 @@ whole-of n c m t = memory-facts n c m (each-passes (memory-tests n c m) t)
 -- ---- to the test
 
 of-word : (n w : ℕ) → WordWhole n w → T (word-sound n w)
-of-word n w v = joined (ltb (index w) (n + 2)) (leb (counter w) (limit n)) (lt→ltb _ _ (v .slot)) (le→leb _ _ (v .count))
+of-word n w v =
+    joined (ltb (index w) (n + 2)) (leb (counter w) (limit n)) (lt→ltb _ _ (v .slot)) (le→leb _ _ (v .count))
 
 of-slot : (n c : ℕ) (m : Memory) (s : ℕ) → Slot n c m s → T (slot-sound n c m s)
 unfolding slot-sound
@@ -129,7 +134,8 @@ of-desk n c m r v =
     (also (le→leb _ _ (v .part))
     (also (le→leb _ _ (v .words))
     (also (le→leb _ _ (v .flag))
-    (also (unless-passed (eqb (m (phase r)) 5) _ (λ e. lt→ltb _ _ (v .copying (eqb→eq _ _ (true-passes _ e))))) none))))))
+    (also (unless-passed (eqb (m (phase r)) 5) _
+    (λ e. lt→ltb _ _ (v .copying (eqb→eq _ _ (true-passes _ e))))) none))))))
 
 of-writer : (n c : ℕ) (m : Memory) → Writer n c m → T (writer-sound n c m)
 unfolding writer-sound

@@ -1,5 +1,5 @@
 -- The calls: from any words, any process and any record to the answer and every word after the call. Assumes nothing.
-use mathlib.Core.Bool.{Bool, true, false, cond, _&&_}
+use mathlib.Core.Bool.{Bool, false, cond, _&&_}
 use mathlib.Core.List.{List, [], _∷_}
 use Prim.Native.Nat.{ℕ, _-_}
 use lib.Dec.{eqb, ltb, leb}
@@ -61,7 +61,8 @@ carried-out p a (accept stores ends) =
 unfoldable pub answered : List ℕ → Move → Answer
 answered a x =
     cond (is-area a)
-    (cond (undamaged a) (carried-out (mover (readers a) x) a (plan (readers a) (capacity a) (memory a) x)) (refused 2 a))
+    (cond (undamaged a) (carried-out (mover (readers a) x) a (plan (readers a) (capacity a) (memory a) x))
+    (refused 2 a))
     (refused 1 a)
 
 abbrev pub read-begun : List ℕ → ℕ → Answer

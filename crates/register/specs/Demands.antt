@@ -3,7 +3,7 @@ use mathlib.Core.Path.{_≡_}
 use mathlib.Core.Logic.{_≢_, _⊎_}
 use mathlib.Core.Bool.{Bool, true, false, cond, _&&_, not}
 use mathlib.Core.List.{List, [], _∷_}
-use Prim.Native.Nat.{ℕ, zero, suc, _+_, _-_, _*_, _≤_, _<_}
+use Prim.Native.Nat.{ℕ, _+_, _-_, _*_, _≤_, _<_}
 use lib.Dec.{eqb, ltb, leb}
 use lib.ListN.{length, getD}
 use Rattle.register.specs.Place.{Record, Store}
@@ -12,7 +12,7 @@ use Rattle.register.specs.Area.{phase, len, writer-phase, writer-len, wr
 use Rattle.register.specs.Area.{readers, capacity, table, is-area, memory, undamaged}
 use Rattle.register.specs.Steps.{accept, Move, read, write, step, mover, plan}
 use Rattle.register.specs.Calls.{Answer, made, answered, read-begun, write-begun, stepped, shown}
-use Rattle.register.specs.History.{after, Accepted, Read, Write, History, history}
+use Rattle.register.specs.History.{after, Accepted, Write, History, history}
 use Rattle.register.specs.Line.{Line}
 
 -- what holds of each of a list
@@ -60,7 +60,8 @@ pub record Promise (n : ℕ) (first : Record) (all-moves : ℕ) (h : History) : 
   pub reads : Each (λ x. x .steps ≤ length (x .gets .shows) + 4) (h .reads)
   -- a write takes looks + L + 5 steps, a read L + 2 or L + 4
   pub write-steps : Each (λ w. w .end < all-moves → w .steps ≡ w .looks + length (w .gives) + 5) (h .writes)
-  pub read-steps : Each (λ x. (x .steps ≡ length (x .gets .shows) + 2) ⊎ (x .steps ≡ length (x .gets .shows) + 4)) (h .reads)
+  pub read-steps : Each (λ x. (x .steps ≡ length (x .gets .shows) + 2) ⊎ (x .steps ≡ length (x .gets .shows) + 4))
+      (h .reads)
   -- each finished read's record is the reader's own to show
   pub own : Each (λ x. x .gets .own ≡ true) (h .reads)
   -- its age is how many writes later than the one it read had ended

@@ -1,7 +1,7 @@
 -- What a run of moves has to say, told from the answers and from the areas before and after each move.
 -- Assumes nothing.
 use mathlib.Core.Path.{_≡_}
-use mathlib.Core.Bool.{Bool, true, false, cond}
+use mathlib.Core.Bool.{Bool, cond}
 use mathlib.Core.List.{List, [], _∷_}
 use Prim.Native.Nat.{ℕ, suc}
 use lib.Dec.{eqb, ltb}
@@ -92,8 +92,8 @@ pub record Read : Type 0 where
   pub steps : ℕ
   pub gets : Got
 
--- a published write: the moves that began, published and ended it, its own steps, its looks, its record. While it has not
--- ended, its end is the number of all moves of the run and its steps are those up to the publication
+-- a published write: the moves that began, published and ended it, its own steps, its looks, its record. Of a write
+-- that has not ended, `end` is the number of all moves of the run and `steps` counts up to the publication
 pub record Write : Type 0 where
   pub begin : ℕ
   pub publication : ℕ
@@ -121,7 +121,8 @@ changed-at f p v q = cond (eqb q p) v (f q)
 abbrev pub closed : ℕ → ℕ → List Write → List Write
 closed t k [] = []
 closed t k (w ∷ l) =
-    record { begin = w .begin; publication = w .publication; end = t; steps = k; looks = w .looks; gives = w .gives } ∷ l
+    record { begin = w .begin; publication = w .publication; end = t; steps = k; looks = w .looks; gives = w .gives }
+    ∷ l
 
 -- one more move, by process p, of a run of `all-moves` moves
 module _ (all-moves : ℕ) (h : History) (p : ℕ) where

@@ -1,7 +1,7 @@
 -- The steps of readers and writer: the stores of each, named once, and the plan that picks them. Assumes nothing.
 use mathlib.Core.Bool.{Bool, true, false, cond, _&&_, not}
 use mathlib.Core.List.{List, [], _∷_, _++_}
-use Prim.Native.Nat.{ℕ, suc, _+_, _*_}
+use Prim.Native.Nat.{ℕ, suc, _*_}
 use lib.Dec.{eqb, ltb, leb}
 use lib.ListN.{length, getD}
 use Rattle.register.specs.Place.{Record, Memory, Store, _≔_, copied}
@@ -101,7 +101,8 @@ module _ (n : ℕ) (m : Memory) where
   abbrev pub read-plan : ℕ → Plan
   read-plan r = cond (ltb r n) (cond (eqb (m (phase r)) 0) (accept (turns r 1) false) (refuse 5)) (refuse 3)
 
-  -- a begin of the writer with a record, where records have at most c words
+  -- a begin of the writer with a record, where records have at most c words. A word holds no more than 2^64 − 1, so
+  -- that writes ended "is" 2^64 − 1 where it is not below it
   abbrev pub write-plan : ℕ → Record → Plan
   write-plan c v =
       cond (leb (length v) c)
@@ -109,7 +110,7 @@ module _ (n : ℕ) (m : Memory) where
       (cond (ltb (m writes-ended) most-writes) (accept (begins-write v) false) (refuse 7)) (refuse 5))
       (refuse 4)
 
-  -- one step of reader r, by its phase
+  -- one step of reader r: 6 when idle, then steps 1 to 5 by its phase
   unfoldable pub reader-step : ℕ → Plan
   reader-step r =
       at-phase (m (phase r))
@@ -122,7 +123,7 @@ module _ (n : ℕ) (m : Memory) where
       ∷ cond (eqb (suc (m (pos r))) (m (len r))) (accept (copies m r ++ finishes r) true) (accept (copies m r) false)
       ∷ [])
 
-  -- one step of the writer, by its phase
+  -- one step of the writer: 6 when idle, then steps 1 to 7 by its phase
   unfoldable pub writer-step : Plan
   writer-step =
       at-phase (m writer-phase)
