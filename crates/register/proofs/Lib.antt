@@ -1,4 +1,6 @@
 -- The proofs, from the ground up. Assumes nothing.
+pub mod SmallRuns
+pub mod Shortcuts
 pub mod Tests
 pub mod Sums
 pub mod Places
@@ -32,5 +34,4 @@ pub mod Made
 pub mod Promise
 pub mod Ending
 pub mod Complete
-pub mod SmallRuns
 pub mod InputA

@@ -22,7 +22,7 @@ flag true = 1
 flag false = 0
 
 -- number, ended, age, and the record that reader 0 then shows
-abbrev said : Answer → List ℕ
+abbrev pub said : Answer → List ℕ
 said x = x .number ∷ flag (x .ended) ∷ x .age ∷ shown (x .area) 0 []
 
 -- a write of a record, in so many steps of the writer, which is process 1
@@ -47,7 +47,7 @@ pub record Row : Type 0 where
   pub given : List ℕ
   pub wanted : List ℕ
 
-abbrev row-of : List ℕ → List ℕ → Row
+abbrev pub row-of : List ℕ → List ℕ → Row
 row-of x y = record { given = x; wanted = y }
 
 abbrev two-writes : List Move
