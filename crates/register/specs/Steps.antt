@@ -24,29 +24,29 @@ at-phase p plans = getD plans p (refuse 2)
 abbrev pub turns : ℕ → ℕ → List Store
 turns r p = phase r ≔ p ∷ []
 
--- (R1) look at current's index: equal to last, or not
+-- 1 (R1): look at current's index. Equal to last: phase 4, otherwise phase 2
 abbrev pub turns-to : Memory → ℕ → ℕ
 turns-to m r = cond (eqb (index (m current)) (m (last r))) 4 2
 
--- (R3) add 1 to r_end of slot last
+-- 2 (R3): add 1 to r_end of slot last
 abbrev pub unbinds : Memory → ℕ → List Store
 unbinds m r = r-end (m (last r)) ≔ suc (m (r-end (m (last r)))) ∷ phase r ≔ 3 ∷ []
 
--- (R4, R5) add 1 to current; last becomes its index
+-- 3 (R4, R5): add 1 to current; last becomes its index
 abbrev pub binds : Memory → ℕ → List Store
 binds m r = current ≔ suc (m current) ∷ last r ≔ index (suc (m current)) ∷ phase r ≔ 4 ∷ []
 
--- take size and write number of slot last
+-- 4: take size and write number of slot last; pos 0. Size 0: the read ends, otherwise phase 5
 abbrev pub takes : Memory → ℕ → List Store
 takes m r =
     len r ≔ m (size (m (last r))) ∷ desk-write-number r ≔ m (slot-write-number (m (last r))) ∷ pos r ≔ 0 ∷ []
 
--- copy the word at pos from slot last; add 1 to pos
+-- 5: copy the word at pos from slot last; add 1 to pos. At len the read ends
 abbrev pub copies : Memory → ℕ → List Store
 copies m r =
     read-record r (m (pos r)) ≔ m (contents (m (last r)) (m (pos r))) ∷ pos r ≔ suc (m (pos r)) ∷ []
 
--- the read ends
+-- ending sets finished to 1, phase to 0
 abbrev pub finishes : ℕ → List Store
 finishes r = finished r ≔ 1 ∷ phase r ≔ 0 ∷ []
 
@@ -57,38 +57,43 @@ abbrev pub begins-write : Record → List Store
 begins-write v =
     copied write-record 0 v ++ (writer-len ≔ length v ∷ in-hand ≔ 0 ∷ writer-pos ≔ 0 ∷ writer-phase ≔ 1 ∷ [])
 
--- (W1) the slot in hand is free if it is not last slot and its r_start equals its r_end
+-- 1 (W1): the slot in hand is free if it is not last slot and its r_start equals its r_end
 abbrev pub free : Memory → Bool
 free m = not (eqb (m in-hand) (m last-slot)) && eqb (m (r-start (m in-hand))) (m (r-end (m in-hand)))
 
+-- free: phase 2, or 3 when len is 0
 abbrev pub picks : Memory → List Store
 picks m = writer-phase ≔ cond (eqb (m writer-len) 0) 3 2 ∷ []
 
+-- not free: next slot, phase 1
 abbrev pub passes : Memory → List Store
 passes m = in-hand ≔ suc (m in-hand) ∷ []
 
--- copy the word at pos from the desk to the same place in the slot's contents; add 1 to pos
+-- 2: copy the word at pos from the desk to the same place in the slot's contents; add 1 to pos. At len phase 3
 abbrev pub fills : Memory → List Store
 fills m =
     contents (m in-hand) (m writer-pos) ≔ m (write-record (m writer-pos)) ∷ writer-pos ≔ suc (m writer-pos)
     ∷ writer-phase ≔ cond (eqb (suc (m writer-pos)) (m writer-len)) 3 2 ∷ []
 
--- write number becomes writes ended + 1, size becomes len; in one step, so their order is free
+-- 3: write number becomes writes ended + 1, size becomes len; in one step, so their order is free
 abbrev pub sizes : Memory → List Store
 sizes m =
     slot-write-number (m in-hand) ≔ suc (m writes-ended) ∷ size (m in-hand) ≔ m writer-len ∷ writer-phase ≔ 4 ∷ []
 
+-- 4: r_start becomes 0
 abbrev pub clears-start : Memory → List Store
 clears-start m = r-start (m in-hand) ≔ 0 ∷ writer-phase ≔ 5 ∷ []
 
+-- 5: r_end becomes 0
 abbrev pub clears-end : Memory → List Store
 clears-end m = r-end (m in-hand) ≔ 0 ∷ writer-phase ≔ 6 ∷ []
 
--- (W2) the exchange: this publishes
+-- 6 (W2): old word becomes current, current becomes slot × 2^32. This publishes
 abbrev pub publishes : Memory → List Store
 publishes m = old-word ≔ m current ∷ current ≔ m in-hand * 4294967296 ∷ writer-phase ≔ 7 ∷ []
 
--- (W3) r_start of the old word's index becomes the old word's counter
+-- 7 (W3): r_start of the old word's index becomes the old word's counter; last slot becomes the slot; writes ended grows
+-- by 1; the write ends
 abbrev pub freezes : Memory → List Store
 freezes m =
     r-start (index (m old-word)) ≔ counter (m old-word) ∷ last-slot ≔ m in-hand ∷ writes-ended ≔ suc (m writes-ended)
@@ -110,25 +115,39 @@ module _ (n : ℕ) (m : Memory) where
       (cond (ltb (m writes-ended) most-writes) (accept (begins-write v) false) (refuse 7)) (refuse 5))
       (refuse 4)
 
-  -- one step of reader r: 6 when idle, then steps 1 to 5 by its phase
+  -- reader r in phase 1 to 5
+  abbrev pub reader-1 : ℕ → Plan
+  reader-1 r = accept (turns r (turns-to m r)) false
+
+  abbrev pub reader-2 : ℕ → Plan
+  reader-2 r = cond (ltb (m (r-end (m (last r)))) (limit n)) (accept (unbinds m r) false) (refuse 2)
+
+  abbrev pub reader-3 : ℕ → Plan
+  reader-3 r = cond (ltb (counter (m current)) (limit n)) (accept (binds m r) false) (refuse 2)
+
+  abbrev pub reader-4 : ℕ → Plan
+  reader-4 r =
+      cond (eqb (m (size (m (last r)))) 0) (accept (takes m r ++ finishes r) true) (accept (takes m r ++ turns r 5) false)
+
+  abbrev pub reader-5 : ℕ → Plan
+  reader-5 r =
+      cond (eqb (suc (m (pos r))) (m (len r))) (accept (copies m r ++ finishes r) true) (accept (copies m r) false)
+
+  -- one step of reader r
   unfoldable pub reader-step : ℕ → Plan
   reader-step r =
-      at-phase (m (phase r))
-      (refuse 6
-      ∷ accept (turns r (turns-to m r)) false
-      ∷ cond (ltb (m (r-end (m (last r)))) (limit n)) (accept (unbinds m r) false) (refuse 2)
-      ∷ cond (ltb (counter (m current)) (limit n)) (accept (binds m r) false) (refuse 2)
-      ∷ cond (eqb (m (size (m (last r)))) 0) (accept (takes m r ++ finishes r) true)
-      (accept (takes m r ++ turns r 5) false)
-      ∷ cond (eqb (suc (m (pos r))) (m (len r))) (accept (copies m r ++ finishes r) true) (accept (copies m r) false)
-      ∷ [])
+      at-phase (m (phase r)) (refuse 6 ∷ reader-1 r ∷ reader-2 r ∷ reader-3 r ∷ reader-4 r ∷ reader-5 r ∷ [])
 
-  -- one step of the writer: 6 when idle, then steps 1 to 7 by its phase
+  -- the writer in phase 1
+  abbrev pub writer-1 : Plan
+  writer-1 = cond (free m) (accept (picks m) false) (cond (eqb (m in-hand) (suc n)) (refuse 8) (accept (passes m) false))
+
+  -- one step of the writer
   unfoldable pub writer-step : Plan
   writer-step =
       at-phase (m writer-phase)
       (refuse 6
-      ∷ cond (free m) (accept (picks m) false) (cond (eqb (m in-hand) (suc n)) (refuse 8) (accept (passes m) false))
+      ∷ writer-1
       ∷ accept (fills m) false
       ∷ accept (sizes m) false
       ∷ accept (clears-start m) false
