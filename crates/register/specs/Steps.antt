@@ -92,8 +92,8 @@ clears-end m = r-end (m in-hand) ≔ 0 ∷ writer-phase ≔ 6 ∷ []
 abbrev pub publishes : Memory → List Store
 publishes m = old-word ≔ m current ∷ current ≔ m in-hand * 4294967296 ∷ writer-phase ≔ 7 ∷ []
 
--- 7 (W3): r_start of the old word's index becomes the old word's counter; last slot becomes the slot; writes ended grows
--- by 1; the write ends
+-- 7 (W3): r_start of the old word's index becomes the old word's counter; last slot becomes the slot; writes ended
+-- grows by 1; the write ends
 abbrev pub freezes : Memory → List Store
 freezes m =
     r-start (index (m old-word)) ≔ counter (m old-word) ∷ last-slot ≔ m in-hand ∷ writes-ended ≔ suc (m writes-ended)
@@ -127,7 +127,8 @@ module _ (n : ℕ) (m : Memory) where
 
   abbrev pub reader-4 : ℕ → Plan
   reader-4 r =
-      cond (eqb (m (size (m (last r)))) 0) (accept (takes m r ++ finishes r) true) (accept (takes m r ++ turns r 5) false)
+      cond (eqb (m (size (m (last r)))) 0) (accept (takes m r ++ finishes r) true)
+      (accept (takes m r ++ turns r 5) false)
 
   abbrev pub reader-5 : ℕ → Plan
   reader-5 r =
@@ -140,7 +141,8 @@ module _ (n : ℕ) (m : Memory) where
 
   -- the writer in phase 1
   abbrev pub writer-1 : Plan
-  writer-1 = cond (free m) (accept (picks m) false) (cond (eqb (m in-hand) (suc n)) (refuse 8) (accept (passes m) false))
+  writer-1 =
+      cond (free m) (accept (picks m) false) (cond (eqb (m in-hand) (suc n)) (refuse 8) (accept (passes m) false))
 
   -- one step of the writer
   unfoldable pub writer-step : Plan
