@@ -19,12 +19,12 @@ use Rattle.register.specs.History.{write-ended}
 use Rattle.register.specs.History.{History, noted}
 use Rattle.register.proofs.Tests.{hit, miss, eqb-same, eqb-other, ltb-below, at-each}
 use Rattle.register.proofs.Places.{row, row-same, row-record}
-use Rattle.register.proofs.Placed.{Sound, sound-noted, began-noted, Needs, where-published}
+use Rattle.register.proofs.Placed.{sound-noted, began-noted, Needs, where-published}
 use Rattle.register.proofs.Placed.{where-closed}
 use Rattle.register.proofs.Placed.{length-closed, newest-closed}
 use Rattle.register.proofs.Moves
 use Rattle.register.proofs.Moves.{Does, got-now, desk-record, fills-to}
-use Rattle.register.proofs.Told.{Reads, Told}
+use Rattle.register.proofs.Told.{Reads, Writes, Newest, Told}
 use Rattle.register.proofs.Counting.{Counted}
 use Rattle.register.proofs.Held.{unheld, hand-apart}
 use Rattle.register.proofs.Copying.{Reading, reading-later, not-yet, bound-to-newest, copy-starts, no-words}
@@ -45,11 +45,19 @@ desk-holds u f =
 module _ (n : ℕ) (first : Record) where
   module _ (big : n < 4294967296) (total : ℕ) {m : Memory} {h : History} (i : Counted n m) (v : Told n first m h)
       (t : h .moves < total) where
-    sound-on : (p : ℕ) (deed : Deed) → Needs first h p deed → Sound first (noted total h p deed)
-    sound-on p deed needs = sound-noted first total h p deed (v .began p) t needs (v .sound)
-
-    began-on : (p : ℕ) (deed : Deed) (q : ℕ) → noted total h p deed .began q ≤ noted total h p deed .moves
-    began-on p deed = began-noted total h p deed (v .began)
+    -- the invariant after a deed of process p
+    told-by : {m′ : Memory} (p : ℕ) (deed : Deed) → Needs first h p deed
+        → Newest n first m′ (noted total h p deed .writes)
+        → ((q : ℕ) → q < n → Reads n first m′ (noted total h p deed) q) → Writes n first m′ (noted total h p deed)
+        → Told n first m′ (noted total h p deed)
+    told-by p deed needs newest-one reader writer =
+        record {
+          sound = sound-noted first total h p deed (v .began p) t needs (v .sound);
+          began = began-noted total h p deed (v .began);
+          newest-one = newest-one;
+          reader = reader;
+          writer = writer;
+        }
 
     -- what reader r is bound to once it finds, or binds, the current slot
     newly-bound : (r : ℕ)
@@ -110,208 +118,128 @@ module _ (n : ℕ) (first : Record) where
 
     pub tells : {c : ℕ} {e : Event} {m′ : Memory} → Does n c m e m′ → Told n first m′ (noted total h (e .who) (e .what))
     tells (Moves.read-starts r l e) =
-        record {
-          sound = sound-on r read-began tt;
-          began = began-on r read-began;
-          newest-one = v .newest-one;
-          reader = at-each (Reads n first (apply m (turns r 1)) (noted total h r read-began)) r
-              (rw (eqb-same r) (not-yet 1 (omega arith)))
-              (λ q k d. rw (eqb-other q r d) (reading-later (v .reader q k)));
-          writer = v .writer;
-        }
+        told-by r read-began tt (v .newest-one)
+        (at-each (Reads n first (apply m (turns r 1)) (noted total h r read-began)) r
+        (rw (eqb-same r) (not-yet 1 (omega arith)))
+        (λ q k d. rw (eqb-other q r d) (reading-later (v .reader q k))))
+        (v .writer)
     tells (Moves.finds-same r l e x) =
-        record {
-          sound = sound-on r (went-on 1) tt;
-          began = began-on r (went-on 1);
-          newest-one = v .newest-one;
-          reader = at-each (Reads n first (apply m (turns r 4)) (noted total h r (went-on 1))) r
-              (rw (eqb-same r) (rw (← x) (newly-bound r)))
-              (λ q k d. rw (eqb-other q r d) (reading-later (v .reader q k)));
-          writer = v .writer;
-        }
+        told-by r (went-on 1) tt (v .newest-one)
+        (at-each (Reads n first (apply m (turns r 4)) (noted total h r (went-on 1))) r
+        (rw (eqb-same r) (rw (← x) (newly-bound r)))
+        (λ q k d. rw (eqb-other q r d) (reading-later (v .reader q k))))
+        (v .writer)
     tells (Moves.finds-other r l e x) =
-        record {
-          sound = sound-on r (went-on 1) tt;
-          began = began-on r (went-on 1);
-          newest-one = v .newest-one;
-          reader = at-each (Reads n first (apply m (turns r 2)) (noted total h r (went-on 1))) r
-              (rw (eqb-same r) (not-yet 2 (omega arith)))
-              (λ q k d. rw (eqb-other q r d) (reading-later (v .reader q k)));
-          writer = v .writer;
-        }
+        told-by r (went-on 1) tt (v .newest-one)
+        (at-each (Reads n first (apply m (turns r 2)) (noted total h r (went-on 1))) r
+        (rw (eqb-same r) (not-yet 2 (omega arith)))
+        (λ q k d. rw (eqb-other q r d) (reading-later (v .reader q k))))
+        (v .writer)
     tells (Moves.leaves-slot r l e x) =
-        record {
-          sound = sound-on r (went-on 2) tt;
-          began = began-on r (went-on 2);
-          newest-one = v .newest-one;
-          reader = at-each (Reads n first (apply m (unbinds m r)) (noted total h r (went-on 2))) r
-              (rw (eqb-same r) (not-yet 3 (omega arith)))
-              (λ q k d. rw (eqb-other q r d) (reading-later (v .reader q k)));
-          writer = v .writer;
-        }
+        told-by r (went-on 2) tt (v .newest-one)
+        (at-each (Reads n first (apply m (unbinds m r)) (noted total h r (went-on 2))) r
+        (rw (eqb-same r) (not-yet 3 (omega arith)))
+        (λ q k d. rw (eqb-other q r d) (reading-later (v .reader q k))))
+        (v .writer)
     tells (Moves.joins-slot r l e x) =
         let same : index (suc (m current)) ≡ index (m current) = omega arith in
-        record {
-          sound = sound-on r (went-on 3) tt;
-          began = began-on r (went-on 3);
-          newest-one = rw same (v .newest-one);
-          reader = at-each (Reads n first (apply m (binds m r)) (noted total h r (went-on 3))) r
-              (rw (eqb-same r, same) (newly-bound r))
-              (λ q k d. rw (eqb-other q r d) (reading-later (v .reader q k)));
-          writer = v .writer;
-        }
+        told-by r (went-on 3) tt (rw same (v .newest-one))
+        (at-each (Reads n first (apply m (binds m r)) (noted total h r (went-on 3))) r
+        (rw (eqb-same r, same) (newly-bound r))
+        (λ q k d. rw (eqb-other q r d) (reading-later (v .reader q k))))
+        (v .writer)
     tells (Moves.takes-none r l e x) =
         let g = got-now m (m (slot-write-number (m (last r)))) [] in
-        record {
-          sound = sound-on r (read-ended g) (no-words (v .reader r l) e x);
-          began = began-on r (read-ended g);
-          newest-one = v .newest-one;
-          reader = at-each (Reads n first (apply m (takes m r ++ finishes r)) (noted total h r (read-ended g))) r
-              (rw (eqb-same r) (not-yet 0 (omega arith)))
-              (λ q k d. rw (eqb-other q r d) (reading-later (v .reader q k)));
-          writer = v .writer;
-        }
+        told-by r (read-ended g) (no-words (v .reader r l) e x) (v .newest-one)
+        (at-each (Reads n first (apply m (takes m r ++ finishes r)) (noted total h r (read-ended g))) r
+        (rw (eqb-same r) (not-yet 0 (omega arith)))
+        (λ q k d. rw (eqb-other q r d) (reading-later (v .reader q k))))
+        (v .writer)
     tells (Moves.takes-size r l e x) =
-        record {
-          sound = sound-on r (went-on 4) tt;
-          began = began-on r (went-on 4);
-          newest-one = v .newest-one;
-          reader = at-each (Reads n first (apply m (takes m r ++ turns r 5)) (noted total h r (went-on 4))) r
-              (rw (eqb-same r) (copy-starts (v .reader r l) e x))
-              (λ q k d. rw (eqb-other q r d) (reading-later (v .reader q k)));
-          writer = v .writer;
-        }
+        told-by r (went-on 4) tt (v .newest-one)
+        (at-each (Reads n first (apply m (takes m r ++ turns r 5)) (noted total h r (went-on 4))) r
+        (rw (eqb-same r) (copy-starts (v .reader r l) e x))
+        (λ q k d. rw (eqb-other q r d) (reading-later (v .reader q k))))
+        (v .writer)
     tells (Moves.copies-word r l e x) =
-        record {
-          sound = sound-on r (went-on 5) tt;
-          began = began-on r (went-on 5);
-          newest-one = v .newest-one;
-          reader = at-each (Reads n first (apply m (copies m r)) (noted total h r (went-on 5))) r
-              (rw (eqb-same r) (copy-goes-on (v .reader r l) (mine-then r) e x (mine-new r) (mine-kept r)))
-              (λ q k d. rw (eqb-other q r d) (reading-later (v .reader q k)));
-          writer = v .writer;
-        }
+        told-by r (went-on 5) tt (v .newest-one)
+        (at-each (Reads n first (apply m (copies m r)) (noted total h r (went-on 5))) r
+        (rw (eqb-same r) (copy-goes-on (v .reader r l) (mine-then r) e x (mine-new r) (mine-kept r)))
+        (λ q k d. rw (eqb-other q r d) (reading-later (v .reader q k))))
+        (v .writer)
     tells (Moves.copies-last r l e x) =
         let g = got-now m (m (desk-write-number r)) (desk-record (apply m (copies m r)) r) in
-        record {
-          sound = sound-on r (read-ended g)
-              (rw (eqb-same r) (copy-ends (v .reader r l) (mine-then r) e x (mine-new r) (mine-kept r)));
-          began = began-on r (read-ended g);
-          newest-one = v .newest-one;
-          reader = at-each (Reads n first (apply m (copies m r ++ finishes r)) (noted total h r (read-ended g))) r
-              (rw (eqb-same r) (not-yet 0 (omega arith)))
-              (λ q k d. rw (eqb-other q r d) (reading-later (v .reader q k)));
-          writer = v .writer;
-        }
+        told-by r (read-ended g)
+        (rw (eqb-same r) (copy-ends (v .reader r l) (mine-then r) e x (mine-new r) (mine-kept r))) (v .newest-one)
+        (at-each (Reads n first (apply m (copies m r ++ finishes r)) (noted total h r (read-ended g))) r
+        (rw (eqb-same r) (not-yet 0 (omega arith)))
+        (λ q k d. rw (eqb-other q r d) (reading-later (v .reader q k))))
+        (v .writer)
     tells (Moves.write-starts u l e more) =
-        record {
-          sound = sound-on n (write-began u) tt;
-          began = began-on n (write-began u);
-          newest-one = v .newest-one;
-          reader = λ q k. rw (eqb-other q n (λ z. omega arith)) (reading-later (v .reader q k));
-          writer = write-begins (v .writer) high u (λ j. cond (ltb j (length u)) (getD u j 0) (m (write-record j))) e
-              (desk-holds u (λ j. m (write-record j)));
-        }
+        told-by n (write-began u) tt (v .newest-one)
+        (λ q k. rw (eqb-other q n (λ z. omega arith)) (reading-later (v .reader q k)))
+        (write-begins (v .writer) high u (λ j. cond (ltb j (length u)) (getD u j 0) (m (write-record j))) e
+        (desk-holds u (λ j. m (write-record j))))
     tells (Moves.picks-empty e d x y) =
-        record {
-          sound = sound-on n looked tt;
-          began = began-on n looked;
-          newest-one = v .newest-one;
-          reader = λ q k. reading-later (v .reader q k);
-          writer = words-there (v .writer) high 3 (m writer-pos) (λ j. m (contents (m in-hand) j)) (omega arith)
-              (omega arith)
-              (omega arith) (omega arith) (λ j l. absurd (omega arith)) (λ z. absurd (omega arith));
-        }
+        told-by n looked tt (v .newest-one)
+        (λ q k. reading-later (v .reader q k))
+        (words-there (v .writer) high 3 (m writer-pos) (λ j. m (contents (m in-hand) j)) (omega arith)
+        (omega arith)
+        (omega arith) (omega arith) (λ j l. absurd (omega arith)) (λ z. absurd (omega arith)))
     tells (Moves.picks-slot e d x y) =
-        record {
-          sound = sound-on n looked tt;
-          began = began-on n looked;
-          newest-one = v .newest-one;
-          reader = λ q k. reading-later (v .reader q k);
-          writer = slot-found (v .writer) high e y;
-        }
+        told-by n looked tt (v .newest-one)
+        (λ q k. reading-later (v .reader q k))
+        (slot-found (v .writer) high e y)
     tells (Moves.passes-slot e d x) =
-        record {
-          sound = sound-on n looked tt;
-          began = began-on n looked;
-          newest-one = v .newest-one;
-          reader = λ q k. reading-later (v .reader q k);
-          writer = slot-passed (v .writer) high e;
-        }
+        told-by n looked tt (v .newest-one)
+        (λ q k. reading-later (v .reader q k))
+        (slot-passed (v .writer) high e)
     tells (Moves.fills-word e x) =
-        record {
-          sound = sound-on n (went-on 2) tt;
-          began = began-on n (went-on 2);
-          newest-one = rw (not-current (omega arith) (omega arith)) (v .newest-one);
-          reader = filled-elsewhere (omega arith) (omega arith) 2;
-          writer = rw (eqb-same (m in-hand)) (fill-goes-on (v .writer) high words-then e x words-new words-kept);
-        }
+        told-by n (went-on 2) tt (rw (not-current (omega arith) (omega arith)) (v .newest-one))
+        (filled-elsewhere (omega arith) (omega arith) 2)
+        (rw (eqb-same (m in-hand)) (fill-goes-on (v .writer) high words-then e x words-new words-kept))
     tells (Moves.fills-last e x) =
-        record {
-          sound = sound-on n (went-on 2) tt;
-          began = began-on n (went-on 2);
-          newest-one = rw (not-current (omega arith) (omega arith)) (v .newest-one);
-          reader = filled-elsewhere (omega arith) (omega arith) 3;
-          writer = rw (eqb-same (m in-hand)) (fill-ends (v .writer) high words-then e x words-new words-kept);
-        }
+        told-by n (went-on 2) tt (rw (not-current (omega arith) (omega arith)) (v .newest-one))
+        (filled-elsewhere (omega arith) (omega arith) 3)
+        (rw (eqb-same (m in-hand)) (fill-ends (v .writer) high words-then e x words-new words-kept))
     tells (Moves.sets-size e) =
+        told-by n (went-on 3) tt (rw (not-current (omega arith) (omega arith)) (v .newest-one))
+        (λ q l.
         record {
-          sound = sound-on n (went-on 3) tt;
-          began = began-on n (went-on 3);
-          newest-one = rw (not-current (omega arith) (omega arith)) (v .newest-one);
-          reader = λ q l.
-              record {
-                bound = λ y. rw (not-bound q l (omega arith) (omega arith) y) (reading-later (v .reader q l) .bound y);
-                copied = λ y. rw (not-bound q l (omega arith) (omega arith) (omega arith)) (v .reader q l .copied y);
-              };
-          writer = rw (eqb-same (m in-hand))
-              (words-there (v .writer) high 4 (m writer-pos) (λ j. m (contents (m in-hand) j)) (omega arith)
-              (omega arith)
-              (omega arith) (omega arith) (v .writer .filled (omega arith) (omega arith)) (λ z. (refl, refl)));
-        }
+          bound = λ y. rw (not-bound q l (omega arith) (omega arith) y) (reading-later (v .reader q l) .bound y);
+          copied = λ y. rw (not-bound q l (omega arith) (omega arith) (omega arith)) (v .reader q l .copied y);
+        })
+        (rw (eqb-same (m in-hand))
+        (words-there (v .writer) high 4 (m writer-pos) (λ j. m (contents (m in-hand) j)) (omega arith)
+        (omega arith)
+        (omega arith) (omega arith) (v .writer .filled (omega arith) (omega arith)) (λ z. (refl, refl))))
     tells (Moves.clears-first e) =
-        record {
-          sound = sound-on n (went-on 4) tt;
-          began = began-on n (went-on 4);
-          newest-one = v .newest-one;
-          reader = λ q k. reading-later (v .reader q k);
-          writer = cleared-on 5 (omega arith) (omega arith) (omega arith) (omega arith);
-        }
+        told-by n (went-on 4) tt (v .newest-one)
+        (λ q k. reading-later (v .reader q k))
+        (cleared-on 5 (omega arith) (omega arith) (omega arith) (omega arith))
     tells (Moves.clears-second e) =
-        record {
-          sound = sound-on n (went-on 5) tt;
-          began = began-on n (went-on 5);
-          newest-one = v .newest-one;
-          reader = λ q k. reading-later (v .reader q k);
-          writer = cleared-on 6 (omega arith) (omega arith) (omega arith) (omega arith);
-        }
+        told-by n (went-on 5) tt (v .newest-one)
+        (λ q k. reading-later (v .reader q k))
+        (cleared-on 6 (omega arith) (omega arith) (omega arith) (omega arith))
     tells (Moves.exchanges e) =
         let same : index (m in-hand * 4294967296) ≡ m in-hand = omega arith in
+        told-by n (published false) tt (rw same (published-whole (v .writer) high (omega arith)))
+        (λ q k.
         record {
-          sound = sound-on n (published false) tt;
-          began = began-on n (published false);
-          newest-one = rw same (published-whole (v .writer) high (omega arith));
-          reader = λ q k.
-              record {
-                bound = λ y. where-published _ (v .began q) (reading-later (v .reader q k) .bound y);
-                copied = v .reader q k .copied;
-              };
-          writer = publishes-it (v .writer) high (omega arith);
-        }
+          bound = λ y. where-published _ (v .began q) (reading-later (v .reader q k) .bound y);
+          copied = v .reader q k .copied;
+        })
+        (publishes-it (v .writer) high (omega arith))
     tells (Moves.write-ends e) =
         let k = suc (h .steps n) in
+        told-by n write-ended tt (
+          v .newest-one .0 ∙ sym (newest-closed first (h .moves) k (h .writes)),
+          v .newest-one .1 ∙ sym (length-closed (h .moves) k (h .writes)),
+        )
+        (λ q l.
         record {
-          sound = sound-on n write-ended tt;
-          began = began-on n write-ended;
-          newest-one = (
-            v .newest-one .0 ∙ sym (newest-closed first (h .moves) k (h .writes)),
-            v .newest-one .1 ∙ sym (length-closed (h .moves) k (h .writes)),
-          );
-          reader = λ q l.
-              record {
-                bound = λ y. where-closed (h .moves) k
-                    (reading-later (v .reader q l) .bound y);
-                copied = v .reader q l .copied;
-              };
-          writer = rw (length-closed (h .moves) k (h .writes)) (ends-it (v .writer) high e);
-        }
+          bound = λ y. where-closed (h .moves) k
+              (reading-later (v .reader q l) .bound y);
+          copied = v .reader q l .copied;
+        })
+        (rw (length-closed (h .moves) k (h .writes)) (ends-it (v .writer) high e))
