@@ -1,0 +1,2 @@
+-- Laws of stores and answers that the moves' proofs cite. Assumes nothing.
+pub mod Stored

@@ -1,0 +1,37 @@
+use borrow.Author.Needs.{needs}
+use Rattle.area.proofs.Words.{write-record-set}
+use Rattle.area.proofs.stores.set_write_record.Statement.{statement}
+use Rattle.area.proofs.stores.set_write_record.Tie as tie
+use Rattle.area.proofs.stores.set_write_record.Reads as reads
+use Rattle.area.proofs.stores.set_write_record.Lts as lts
+use Rattle.area.proofs.Layout.own.Reads as own-reads
+
+-- src/stores.rt:70:19
+add-own : tie.Need-add-own
+add-own c = search needs
+
+-- src/stores.rt:70:9
+own-requires : tie.Need-own-requires
+own-requires c κs = search needs
+
+-- src/stores.rt:71:5
+mul-area : tie.Need-mul-area
+mul-area c = search needs
+
+-- src/stores.rt:71:5
+slice-write-area : tie.Need-slice-write-area
+slice-write-area c = search needs
+
+-- src/stores.rt:66:1
+same-length : tie.Need-same-length
+same-length c = search needs
+
+-- src/stores.rt:66:1
+returns : tie.Need-returns
+returns c =
+    let b = c .before .before .args in
+    write-record-set (b .p .n) (b .p .c) (b .area .now) (b .v) (b .j) (c .own .ensures .0)
+
+pub set-write-record-spec : {M : Type 1} → statement M
+set-write-record-spec =
+    tie.close (tie.spec add-own own-requires mul-area slice-write-area same-length returns)

@@ -1,0 +1,3 @@
+-- What the code of the area says of its words, over the definitions of `register`. Assumes nothing.
+pub mod Words
+pub mod Test

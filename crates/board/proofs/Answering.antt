@@ -1,0 +1,78 @@
+-- A call on any words: where the test gives a number the call gives it too, and where it passes the call is its plan
+-- carried out. Assumes nothing.
+use mathlib.Core.Path.{_≡_, refl, sym, ap, ap₂, _∙_}
+use mathlib.Core.Logic.{_≢_}
+use mathlib.Core.Bool.{Bool, true, false, cond}
+use mathlib.Core.List.{List}
+use Prim.Native.Nat.{ℕ, _<_, _≤_}
+use native.Mathlib.Omega.{arith}
+use lib.Dec.{ltb, eqb}
+use Rattle.register.specs.Area.{readers, capacity, is-area, memory, undamaged}
+use Rattle.register.specs.Steps.{Plan, refuse, accept, reader-step, writer-step, Move, step, mover, plan}
+use Rattle.register.specs.Calls.{refused, carried-out, answered}
+use Rattle.register.proofs.Tests.{ltb-below, ltb-beyond, eqb-equal, eqb-other}
+use Rattle.register.proofs.Called.{whole-area}
+use Rattle.area.specs.declared.Layout.{Layout}
+use Rattle.area.specs.Words.{layout-of, memory-of}
+use Rattle.area.specs.Test.{test-number}
+use Rattle.area.proofs.AreaTest.{sized}
+use Rattle.area.proofs.TestNumber.{both-pass, refuses}
+use Rattle.answer.specs.declared.Answer.{Answer as Returned}
+use Rattle.answer.specs.Carried.{whole, Ready, carried}
+use Rattle.answer.proofs.Stored.{returned}
+
+-- the test failed: its number is the answer, and no word is changed
+pub test-refuses : (a : List ℕ) (x : Move) {k : ℕ} {y : Returned} → k ≡ test-number a → k ≢ 0 → y ≡ returned k false
+    → whole y a ≡ answered a x
+test-refuses a x e d f =
+    ap (λ z. whole z a) f ∙ ap (λ j. refused j a) e ∙ sym (refuses a x (λ z. d (e ∙ z)))
+
+module _ (a : List ℕ) {k : ℕ} (e : k ≡ test-number a) (z : k ≡ 0) where
+  -- the test passed
+  pub passes : (is-area a ≡ true) × (undamaged a ≡ true)
+  passes = both-pass a (sym e ∙ z)
+
+  module _ {p : Layout} (f : p ≡ layout-of (readers a) (capacity a)) where
+    -- the area's own layout fits it
+    pub ready : Ready p a
+    ready = record { sized = sized a p f (passes .0); sound = rw f (whole-area a (passes .1)) }
+
+    -- the call is its plan carried out
+    pub carries-out : (x : Move) → carried p (mover (p .n) x) a (plan (p .n) (p .c) (memory-of p a) x) ≡ answered a x
+    unfolding carried carried-out answered
+    carries-out x =
+        ap (λ q. carried q (mover (q .n) x) a (plan (q .n) (q .c) (memory-of q a) x)) f
+        ∙ go (plan (readers a) (capacity a) (memory a) x)
+        ∙ sym (λ i. cond (passes .0 i) (cond (passes .1 i) done (refused 2 a)) (refused 1 a))
+      where
+        done : Rattle.register.specs.Calls.Answer
+        done = carried-out (mover (readers a) x) a (plan (readers a) (capacity a) (memory a) x)
+
+        go : (y : Plan) → carried (layout-of (readers a) (capacity a)) (mover (readers a) x) a y
+            ≡ carried-out (mover (readers a) x) a y
+        go (refuse j) = refl
+        go (accept stores ends) = refl
+
+    module _ (q : ℕ) where
+      abbrev reads : Plan
+      reads = reader-step (p .n) (memory-of p a) q
+
+      abbrev writes : Plan
+      writes = writer-step (p .n) (memory-of p a)
+
+      -- what a step carries out, once its process is known
+      picked : {x y : Bool} → ltb q (p .n) ≡ x → eqb q (p .n) ≡ y
+          → carried p q a (cond x reads (cond y writes (refuse 3))) ≡ answered a (step q)
+      picked l e =
+          sym (ap₂ (λ x y. carried p q a (cond x reads (cond y writes (refuse 3)))) l e) ∙ carries-out (step q)
+
+      pub by-reader : q < p .n → carried p q a reads ≡ answered a (step q)
+      by-reader l = picked (ltb-below q (p .n) l) refl
+
+      pub by-writer : q ≡ p .n → carried p (p .n) a writes ≡ answered a (step q)
+      by-writer e =
+          ap (λ j. carried p j a writes) (sym e)
+          ∙ picked (ltb-beyond q (p .n) (omega (arith, e))) (eqb-equal q (p .n) e)
+
+      pub by-nobody : p .n ≤ q → q ≢ p .n → carried p q a (refuse 3) ≡ answered a (step q)
+      by-nobody l d = picked (ltb-beyond q (p .n) l) (eqb-other q (p .n) d)

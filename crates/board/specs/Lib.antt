@@ -1,0 +1,3 @@
+-- What making and showing do in parts, over the definitions of `register`. Assumes nothing.
+pub mod Making
+pub mod Showing

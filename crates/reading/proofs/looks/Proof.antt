@@ -1,0 +1,37 @@
+-- `reader::looks` meets its contract: each way to the new phase has its law. Assumes nothing.
+use borrow.Author.Needs.{needs}
+use mathlib.Core.Logic.{⊎-elim}
+use Rattle.reading.proofs.Reading.{stays, leaves}
+use Rattle.reading.proofs.looks.Statement.{statement}
+use Rattle.reading.proofs.looks.Tie as tie
+
+current-word-requires : tie.Need-current-word-requires
+current-word-requires c κs = search needs
+
+desk-field-requires : tie.Need-desk-field-requires
+desk-field-requires c κs = search needs
+
+set-desk-field-requires : tie.Need-set-desk-field-requires
+set-desk-field-requires c κs = search needs
+
+accepted-requires : tie.Need-accepted-requires
+accepted-requires c κs = search needs
+
+same-length : tie.Need-same-length
+same-length c = search needs
+
+returns : tie.Need-returns
+returns c =
+    ⊎-elim (λ w. search (needs, stays)) (λ w. search (needs, leaves))
+    (c .before .before .before .before .before .if1 .came)
+
+pub looks-spec : {M : Type 1} → statement M
+looks-spec =
+    tie.close
+    (tie.spec
+    current-word-requires
+    desk-field-requires
+    set-desk-field-requires
+    accepted-requires
+    same-length
+    returns)

@@ -1,0 +1,54 @@
+-- `reader::unbinds` meets its contract: the slot is the area's, and each way through has its law. Assumes nothing.
+use borrow.Author.Needs.{needs}
+use Rattle.reading.proofs.Reading.{bound-slot, all-gone, unbound}
+use Rattle.reading.proofs.unbinds.Statement.{statement}
+use Rattle.reading.proofs.unbinds.Tie as tie
+
+desk-field-requires : tie.Need-desk-field-requires
+desk-field-requires c κs = search needs
+
+slot-field-requires : tie.Need-slot-field-requires
+slot-field-requires c κs = search (needs, bound-slot)
+
+refusal-requires : tie.Need-refusal-requires
+refusal-requires c κs = search needs
+
+same-length : tie.Need-same-length
+same-length c = search needs
+
+returns : tie.Need-returns
+returns c = search (needs, all-gone)
+
+add-set-slot-field : tie.Need-add-set-slot-field
+add-set-slot-field c = search needs
+
+set-slot-field-requires : tie.Need-set-slot-field-requires
+set-slot-field-requires c κs = search (needs, bound-slot)
+
+set-desk-field-requires : tie.Need-set-desk-field-requires
+set-desk-field-requires c κs = (search needs, search needs, search needs)
+
+accepted-requires : tie.Need-accepted-requires
+accepted-requires c κs = search needs
+
+same-length-2 : tie.Need-same-length-2
+same-length-2 c = search needs
+
+returns-2 : tie.Need-returns-2
+returns-2 c = search (needs, unbound)
+
+pub unbinds-spec : {M : Type 1} → statement M
+unbinds-spec =
+    tie.close
+    (tie.spec
+    desk-field-requires
+    slot-field-requires
+    refusal-requires
+    same-length
+    returns
+    add-set-slot-field
+    set-slot-field-requires
+    set-desk-field-requires
+    accepted-requires
+    same-length-2
+    returns-2)

@@ -1,0 +1,3 @@
+-- Laws of the writer's moves that their proofs cite. Assumes nothing.
+pub mod WriterSteps
+pub mod WriterBegins

@@ -1,0 +1,103 @@
+-- `writer::scans` meets its contract: each way through it is a plan of step 1. Assumes nothing.
+use borrow.Author.Needs.{needs}
+use Rattle.writing.proofs.WriterSteps.{picked, none-free, passed-by}
+use Rattle.writing.proofs.scans.Statement.{statement}
+use Rattle.writing.proofs.scans.Tie as tie
+
+writer-field-requires : tie.Need-writer-field-requires
+writer-field-requires c κs = search needs
+
+writer-field-requires-2 : tie.Need-writer-field-requires-2
+writer-field-requires-2 c κs = search needs
+
+is-free-requires : tie.Need-is-free-requires
+is-free-requires c κs = search needs
+
+copying-requires : tie.Need-copying-requires
+copying-requires c κs = search needs
+
+set-writer-field-requires : tie.Need-set-writer-field-requires
+set-writer-field-requires c κs = search needs
+
+accepted-requires : tie.Need-accepted-requires
+accepted-requires c κs = search needs
+
+same-length : tie.Need-same-length
+same-length c = search needs
+
+returns : tie.Need-returns
+returns c =
+    let first = c .before .before .before in
+    let phase = first .before in
+    let found = phase .before .before in
+    let test = found .before in
+    let len = test .before .before in
+    let hand = len .before .before in
+    let start = hand .before .before .before in
+    picked (start .args .p) (start .args .area .now) (hand .writer-field .ensures) (len .writer-field2 .ensures)
+    (test .is-free .ensures) (found .if1 .taken) (phase .copying .ensures) (first .set-writer-field .ensures)
+    (c .accepted .ensures)
+
+add-if2 : tie.Need-add-if2
+add-if2 c = search needs
+
+refusal-requires : tie.Need-refusal-requires
+refusal-requires c κs = search needs
+
+same-length-2 : tie.Need-same-length-2
+same-length-2 c = search needs
+
+returns-2 : tie.Need-returns-2
+returns-2 c =
+    let end = c .before in
+    let taken = end .before in
+    let test = taken .before in
+    let hand = test .before .before .before .before in
+    let start = hand .before .before .before in
+    none-free (start .args .p) (start .args .area .now) (hand .writer-field .ensures) (test .is-free .ensures)
+    (taken .if1 .left) (end .if2 .taken) (c .refusal .ensures)
+
+add-set-writer-field : tie.Need-add-set-writer-field
+add-set-writer-field c = search needs
+
+set-writer-field-requires-2 : tie.Need-set-writer-field-requires-2
+set-writer-field-requires-2 c κs = search needs
+
+accepted-requires-2 : tie.Need-accepted-requires-2
+accepted-requires-2 c κs = search needs
+
+same-length-3 : tie.Need-same-length-3
+same-length-3 c = search needs
+
+returns-3 : tie.Need-returns-3
+returns-3 c =
+    let first = c .before .before .before in
+    let more = first .before .before in
+    let taken = more .before in
+    let test = taken .before in
+    let hand = test .before .before .before .before in
+    let start = hand .before .before .before in
+    passed-by (start .args .p) (start .args .area .now) (hand .writer-field .ensures) (test .is-free .ensures)
+    (taken .if1 .left) (more .if2 .left) (first .set-writer-field2 .ensures) (c .accepted2 .ensures)
+
+pub scans-spec : {M : Type 1} → statement M
+scans-spec =
+    tie.close
+    (tie.spec
+    writer-field-requires
+    writer-field-requires-2
+    is-free-requires
+    copying-requires
+    set-writer-field-requires
+    accepted-requires
+    same-length
+    returns
+    add-if2
+    refusal-requires
+    same-length-2
+    returns-2
+    add-set-writer-field
+    set-writer-field-requires-2
+    accepted-requires-2
+    same-length-3
+    returns-3)
