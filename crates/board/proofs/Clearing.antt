@@ -12,10 +12,12 @@ pub record Clearing (a₀ a : List ℕ) (i : ℕ) : Type 0 where
   pub as-many : length a ≡ length a₀
   pub front : a ≡ replicate i 0 ++ drop i a₀
 
+-- no word yet
 pub clearing-none : (a : List ℕ) → Clearing a a 0
 clearing-none a = record { within = omega arith; as-many = refl; front = fill-none a 0 }
 
 module _ {a₀ a : List ℕ} {i : ℕ} (x : Clearing a₀ a i) where
+  -- one word more
   pub clearing-more : i < length a → Clearing a₀ (set a i 0) (i + 1)
   clearing-more h =
       record {
@@ -24,6 +26,7 @@ module _ {a₀ a : List ℕ} {i : ℕ} (x : Clearing a₀ a i) where
         front = ap (λ l. set l i 0) (x .front) ∙ fill-more i 0 a₀ (omega arith);
       }
 
+  -- every word
   pub clearing-done : length a ≤ i → a ≡ replicate (length a₀) 0
   clearing-done h =
       let e : i ≡ length a₀ = omega arith in

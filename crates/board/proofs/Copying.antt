@@ -22,10 +22,12 @@ pub record Copying (p : Layout) (at : ℕ → Place) (v : Record) (a₀ a : List
   pub as-many : length a ≡ length a₀
   pub rest : stored p a (copied at i (drop i v)) ≡ stored p a₀ (copied at 0 v)
 
+-- no word yet
 pub copying-none : (p : Layout) (at : ℕ → Place) (v : Record) (a : List ℕ) → Copying p at v a a 0
 copying-none p at v a = record { within = omega arith; as-many = refl; rest = refl }
 
 module _ {p : Layout} {at : ℕ → Place} {v : Record} {a₀ a : List ℕ} {i : ℕ} (x : Copying p at v a₀ a i) where
+  -- one word more
   pub copying-more : {b : List ℕ} → i < length v → b ≡ stored p a (at i ≔ getD v i 0 ∷ [])
       → Copying p at v a₀ b (i + 1)
   copying-more h e =
@@ -35,5 +37,6 @@ module _ {p : Layout} {at : ℕ → Place} {v : Record} {a₀ a : List ℕ} {i :
         rest = rw (e, add-one) (sym (ap (λ l. stored p a (copied at i l)) (drop-cons v i 0 h)) ∙ x .rest);
       }
 
+  -- every word
   pub copying-done : length v ≤ i → a ≡ stored p a₀ (copied at 0 v)
   copying-done h = sym (ap (λ l. stored p a (copied at i l)) (drop-of-length-le v h)) ∙ x .rest

@@ -25,10 +25,12 @@ use Rattle.board.proofs.Copying.{Copying, copying-done}
 -- ---- the words
 
 module _ {p : Layout} (l : Laid p) (a : List ℕ) where
+  -- words 0 to 3, with the layout's total
   pub numbers-set : set (set (set (set a 0 1) 1 (p .n)) 2 (p .c)) 3 (p .total)
       ≡ stored p a (numbers (p .n) (p .c))
   numbers-set = ap (set (set (set (set a 0 1) 1 (p .n)) 2 (p .c)) 3) (total-is l)
 
+  -- words 4 to 7, with the layout's offsets
   pub offsets-set : set (set (set (set a 4 (p .slots)) 5 (p .desks)) 6 (p .writer)) 7 (p .n)
       ≡ stored p a (offsets (p .n) (p .c))
   offsets-set = ap (λ q. set (set (set (set a 4 (q .slots)) 5 (q .desks)) 6 (q .writer)) 7 (p .n)) (l .exact)
@@ -57,6 +59,7 @@ answer k = record { number = k; ended = false; age = 0 }
 tested : (form n c : ℕ) {r : Bool} → r ≡ in-range n c → known-form form && r ≡ known-form form && in-range n c
 tested form n c e = ap (λ b. known-form form && b) e
 
+-- an unknown form, or N or C out of range: 9
 pub made-unknown : (form n c : ℕ) (v : Record) (a : List ℕ) {x : Answer} {r : Bool} → x ≡ answer 9 → r ≡ in-range n c
     → not (known-form form && r) ≡ true → whole x a ≡ made form n c v a
 unfolding made
@@ -68,6 +71,7 @@ pub record Taken (form n c : ℕ) : Type 0 where
   pub few-readers : n ≤ 64
   pub few-words : c ≤ 256
 
+-- the code's test passes where making takes them
 pub taken-of : (form n c : ℕ) {r : Bool} → r ≡ in-range n c → not (known-form form && r) ≡ false → Taken form n c
 taken-of form n c e h =
     let k = was-yes (tested form n c e) h in
@@ -75,24 +79,29 @@ taken-of form n c e h =
     record { known = k; few-readers = range .few-readers; few-words = range .few-words }
 
 module _ {form n c : ℕ} (t : Taken form n c) {p : Layout} (l : p ≡ layout-of n c) (v : Record) (a : List ℕ) where
+  -- the layout of N and C has the area's total, and its C
   total-here : p .total ≡ total (form1 n c)
   total-here = ap (λ q. q .total) l
 
   words-here : p .c ≡ c
   words-here = ap (λ q. q .c) l
 
+  -- a slice of another length: 10
   pub made-other-length : {x : Answer} → x ≡ answer 10 → length a ≢ p .total → whole x a ≡ made form n c v a
   unfolding made
   made-other-length e d = rw (e, t .known, ne-eqb (length a) (total (form1 n c)) (λ s. d (s ∙ sym total-here)))
 
   module _ (s : length a ≡ p .total) where
+    -- the slice has the area's words
     as-many : eqb (length a) (total (form1 n c)) ≡ true
     as-many = eq-eqb (length a) (total (form1 n c)) (s ∙ total-here)
 
+    -- a record of more than C words: 4
     pub made-too-long : {x : Answer} → x ≡ answer 4 → p .c < length v → whole x a ≡ made form n c v a
     unfolding made
     made-too-long e h = rw (e, t .known, as-many, lt-leb (length v) c (rw words-here at h))
 
+    -- neither: the fresh area
     pub made-well : {x : Answer} {b : List ℕ} → x ≡ answer 0 → length v ≤ p .c → b ≡ fresh (p .n) (p .c) v
         → whole x b ≡ made form n c v a
     unfolding made

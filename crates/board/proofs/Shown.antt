@@ -26,9 +26,11 @@ use Rattle.board.specs.Showing.{rest-tests, desk-record}
 
 -- ---- the tests of the reader
 
+-- the reader does not exist
 pub no-reader : (n : ℕ) (m : Memory) (r : ℕ) → n ≤ r → false ≡ all (rest-tests n m r)
 no-reader n m r h = rw (le-ltb r n h)
 
+-- it exists, and its phase and its finished tell
 pub reader-rests : (n : ℕ) (m : Memory) (r : ℕ) {x y : ℕ} → r < n → x ≡ m (phase r) → y ≡ m (finished r)
     → eqb x 0 && eqb y 1 ≡ all (rest-tests n m r)
 reader-rests n m r h e f = rw (lt-ltb r n h, e, f, and-true)
@@ -45,6 +47,7 @@ module _ (a : List ℕ) (r : ℕ) where
       go true e false f = rw (e, f)
       go true e true f = absurd (d (sym (sound-area a e f)))
 
+  -- an undamaged area: the reader's tests are left
   pub own-is : (p : Layout) → p ≡ layout-of (readers a) (capacity a) → test-number a ≡ 0
       → all (rest-tests (p .n) (memory-of p a) r) ≡ is-own a r
   unfolding is-own
@@ -57,16 +60,19 @@ pub record Own (p : Layout) (a : List ℕ) (r : ℕ) : Type 0 where
   pub exists : r < p .n
 
 module _ (a : List ℕ) (r : ℕ) (o : is-own a r ≡ true) where
+  -- every test passes
   own-parts : Each T (own-tests a r)
   unfolding is-own
   own-parts = each-passes (own-tests a r) (true-passes _ o)
 
+  -- the first says that it is an area
   pub own-area : is-area a ≡ true
   own-area = go own-parts
     where
       go : Each T (own-tests a r) → is-area a ≡ true
       go (also t rest) = passed _ t
 
+  -- what the others say, by the area's layout
   pub own-facts : (p : Layout) → p ≡ layout-of (readers a) (capacity a) → Own p a r
   own-facts p l = go own-parts
     where
@@ -82,10 +88,12 @@ module _ (a : List ℕ) (r : ℕ) (o : is-own a r ≡ true) where
 -- ---- what is shown
 
 module _ (a : List ℕ) (r : ℕ) (d : Record) where
+  -- no record of the reader's: the default
   pub shown-default : is-own a r ≡ false → d ≡ shown a r d
   unfolding shown
   shown-default e = rw e
 
+  -- the reader's: the record of its desk
   pub shown-own : (p : Layout) → p ≡ layout-of (readers a) (capacity a) → is-own a r ≡ true
       → desk-record p a r ≡ shown a r d
   unfolding shown
