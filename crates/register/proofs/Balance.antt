@@ -105,7 +105,8 @@ module _ {n here counted : ℕ} {started gone bound : ℕ → ℕ} {phase last h
       → Balance n here counted started gone bound phase′ last hand old frozen
   hand-free phase′ lo hi e d free = go (b .away) (b .stage) (b .settled)
     where
-      go : (away : ℕ) → Stage n here gone bound phase last hand old frozen away → Settled n here started gone bound away
+      go : (away : ℕ) → Stage n here gone bound phase last hand old frozen away
+          → Settled n here started gone bound away
           → Balance n here counted started gone bound phase′ last hand old frozen
       go away (idle p q a) settled = absurd (omega arith)
       go away (scanning p q a s h g j z) settled =
@@ -126,7 +127,8 @@ module _ {n here counted : ℕ} {started gone bound : ℕ → ℕ} {phase last h
       → Balance n here counted started gone bound phase last (suc hand) old frozen × (hand ≢ suc n)
   hand-held e held = go (b .away) (b .stage) (b .settled)
     where
-      go : (away : ℕ) → Stage n here gone bound phase last hand old frozen away → Settled n here started gone bound away
+      go : (away : ℕ) → Stage n here gone bound phase last hand old frozen away
+          → Settled n here started gone bound away
           → Balance n here counted started gone bound phase last (suc hand) old frozen × (hand ≢ suc n)
       go away (idle p q a) settled = absurd (omega arith)
       go away (scanning p q a s h g j z) settled =
@@ -151,7 +153,8 @@ module _ {n here counted : ℕ} {started gone bound : ℕ → ℕ} {phase last h
       → Balance n here counted started′ gone′ bound phase′ last hand old frozen
   hand-filled started′ gone′ phase′ lo hi lo′ hi′ clear same-started same-gone = go (b .away) (b .stage) (b .settled)
     where
-      go : (away : ℕ) → Stage n here gone bound phase last hand old frozen away → Settled n here started gone bound away
+      go : (away : ℕ) → Stage n here gone bound phase last hand old frozen away
+          → Settled n here started gone bound away
           → Balance n here counted started′ gone′ bound phase′ last hand old frozen
       go away (idle p q a) settled = absurd (omega arith)
       go away (scanning p q a s h g j z) settled = absurd (omega arith)
@@ -171,7 +174,8 @@ module _ {n here counted : ℕ} {started gone bound : ℕ → ℕ} {phase last h
   pub hand-published : phase ≡ 6 → Balance n hand 0 started gone bound 7 last hand here counted
   hand-published e = go (b .away) (b .stage) (b .settled)
     where
-      go : (away : ℕ) → Stage n here gone bound phase last hand old frozen away → Settled n here started gone bound away
+      go : (away : ℕ) → Stage n here gone bound phase last hand old frozen away
+          → Settled n here started gone bound away
           → Balance n hand 0 started gone bound 7 last hand here counted
       go away (idle p q a) settled = absurd (omega arith)
       go away (scanning p q a s h g j z) settled = absurd (omega arith)
@@ -186,11 +190,13 @@ module _ {n here counted : ℕ} {started gone bound : ℕ → ℕ} {phase last h
       go away (told p q a h g x) settled = absurd (omega arith)
 
   -- writer step 7: the old slot's r_start becomes the old word's counter
-  pub old-frozen : (started′ : ℕ → ℕ) → phase ≡ 7 → ((s : ℕ) → s ≢ old → started′ s ≡ started s) → started′ old ≡ frozen
+  pub old-frozen : (started′ : ℕ → ℕ) → phase ≡ 7 → ((s : ℕ) → s ≢ old → started′ s ≡ started s)
+      → started′ old ≡ frozen
       → Balance n here counted started′ gone bound 0 hand hand old frozen
   old-frozen started′ e same new = go (b .away) (b .stage) (b .settled)
     where
-      go : (away : ℕ) → Stage n here gone bound phase last hand old frozen away → Settled n here started gone bound away
+      go : (away : ℕ) → Stage n here gone bound phase last hand old frozen away
+          → Settled n here started gone bound away
           → Balance n here counted started′ gone bound 0 hand hand old frozen
       go away (idle p q a) settled = absurd (omega arith)
       go away (scanning p q a s h g j z) settled = absurd (omega arith)

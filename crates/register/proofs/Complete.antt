@@ -142,7 +142,8 @@ module _ (a : List ℕ) where
       reader false = refl
 
       writer : (s e t : Bool)
-          → publications-of (cond s (published e) (cond e write-ended (cond t looked (went-on its-phase)))) ≡ cond s 1 0
+          → publications-of (cond s (published e) (cond e write-ended (cond t looked (went-on its-phase))))
+          ≡ cond s 1 0
       writer true e t = refl
       writer false true t = refl
       writer false false true = refl

@@ -93,7 +93,8 @@ module _ (n : ℕ) where
 
   abbrev pub Counts : Memory → (ℕ → ℕ) → Type 0
   Counts m bound =
-      Balance n (index (m current)) (counter (m current)) (λ s. m (r-start s)) (λ s. m (r-end s)) bound (m writer-phase)
+      Balance n (index (m current)) (counter (m current)) (λ s. m (r-start s)) (λ s. m (r-end s)) bound
+      (m writer-phase)
       (m last-slot) (m in-hand) (index (m old-word)) (counter (m old-word))
 
   -- the counting invariant
@@ -245,14 +246,17 @@ module _ (n : ℕ) where
   keeps-counts big v (Moves.joins-slot r h e x) = joining _ r h big e x v
   keeps-counts big {m = m} v (Moves.takes-none r h e x) =
       let m′ : Memory = apply m (takes m r ++ finishes r) in
-      stays m m′ (v .lasts) (quiet m m′ r 0 h (λ y. omega arith) (λ y. omega arith) (λ q. refl) (λ q. refl)) (v .counts)
+      stays m m′ (v .lasts) (quiet m m′ r 0 h (λ y. omega arith) (λ y. omega arith) (λ q. refl) (λ q. refl))
+      (v .counts)
   keeps-counts big {m = m} v (Moves.takes-size r h e x) =
       let m′ : Memory = apply m (takes m r ++ turns r 5) in
-      stays m m′ (v .lasts) (quiet m m′ r 5 h (λ y. omega arith) (λ y. omega arith) (λ q. refl) (λ q. refl)) (v .counts)
+      stays m m′ (v .lasts) (quiet m m′ r 5 h (λ y. omega arith) (λ y. omega arith) (λ q. refl) (λ q. refl))
+      (v .counts)
   keeps-counts big v (Moves.copies-word r h e x) = record { lasts = v .lasts; counts = v .counts }
   keeps-counts big {m = m} v (Moves.copies-last r h e x) =
       let m′ : Memory = apply m (copies m r ++ finishes r) in
-      stays m m′ (v .lasts) (quiet m m′ r 0 h (λ y. omega arith) (λ y. omega arith) (λ q. refl) (λ q. refl)) (v .counts)
+      stays m m′ (v .lasts) (quiet m m′ r 0 h (λ y. omega arith) (λ y. omega arith) (λ q. refl) (λ q. refl))
+      (v .counts)
   keeps-counts big {m = m} v (Moves.write-starts u h e full) =
       record { lasts = v .lasts; counts = write-begins (v .counts) e (bound-few m (n + 2)) }
   keeps-counts big v (Moves.picks-empty e d x y) =

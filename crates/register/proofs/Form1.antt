@@ -34,7 +34,13 @@ module _ (n c : ℕ) where
 
   pub has-header : (i : ℕ) → i < 8 → Has (form1 n c) (header i)
   has-header i l =
-      record { part = omega arith; row = omega arith; field = omega arith; many = λ e. omega arith; single = λ d. refl }
+      record {
+        part = omega arith;
+        row = omega arith;
+        field = omega arith;
+        many = λ e. omega arith;
+        single = λ d. refl;
+      }
 
   pub own-current : Own current
   own-current = record { has = has-header 7 (omega arith); behind = omega arith }
@@ -43,8 +49,7 @@ module _ (n c : ℕ) where
   own-slot f s l k =
       record {
         has = record {
-          part =
-              omega arith;
+          part = omega arith;
           row = k;
           field = omega arith;
           many = λ e. absurd (omega arith);
@@ -56,7 +61,13 @@ module _ (n c : ℕ) where
   pub own-contents : (s i : ℕ) → s < n + 2 → i < c → Own (contents s i)
   own-contents s i k l =
       record {
-        has = record { part = omega arith; row = k; field = omega arith; many = λ e. l; single = λ d. absurd (d refl) };
+        has = record {
+          part = omega arith;
+          row = k;
+          field = omega arith;
+          many = λ e. l;
+          single = λ d. absurd (d refl);
+        };
         behind = omega arith;
       }
 
@@ -64,8 +75,7 @@ module _ (n c : ℕ) where
   own-desk f r l k =
       record {
         has = record {
-          part =
-              omega arith;
+          part = omega arith;
           row = k;
           field = omega arith;
           many = λ e. absurd (omega arith);
@@ -77,7 +87,13 @@ module _ (n c : ℕ) where
   pub own-read-record : (r i : ℕ) → r < n → i < c → Own (read-record r i)
   own-read-record r i k l =
       record {
-        has = record { part = omega arith; row = k; field = omega arith; many = λ e. l; single = λ d. absurd (d refl) };
+        has = record {
+          part = omega arith;
+          row = k;
+          field = omega arith;
+          many = λ e. l;
+          single = λ d. absurd (d refl);
+        };
         behind = omega arith;
       }
 
@@ -98,8 +114,7 @@ module _ (n c : ℕ) where
   own-write-record i l =
       record {
         has = record {
-          part =
-              omega arith;
+          part = omega arith;
           row = omega arith;
           field = omega arith;
           many = λ e. l;

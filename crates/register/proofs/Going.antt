@@ -7,7 +7,8 @@ use native.Mathlib.Omega.{arith}
 use lib.Dec.{eqb, leb, ltb}
 use lib.ListN.{length}
 use Rattle.register.specs.Place.{Record, Memory}
-use Rattle.register.specs.Area.{current, counter, r-start, r-end, size, limit, most-writes, phase, last, pos, len}
+use Rattle.register.specs.Area.{current, counter, r-start, r-end, size, limit, most-writes, phase, last, pos}
+use Rattle.register.specs.Area.{len}
 use Rattle.register.specs.Area.{writer-phase, in-hand, writes-ended}
 use Rattle.register.specs.Steps
 use Rattle.register.specs.Steps.{Plan, refuse, accept, read-plan, write-plan, reader-step, writer-step, free}

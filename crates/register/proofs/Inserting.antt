@@ -119,7 +119,8 @@ module _ {first : Record} where
       record { line = map writing writes; whole = same (map writing writes); lined = writes-lined apart }
   all-put-in apart h (one-read {x = x} a b place rest) =
       let others = all-put-in apart (le-trans a h) rest in
-      let put = put-in x b (le-trans b (le-trans a h)) (place .placed) (place .number) (others .line) (others .lined) in
+      let put =
+      put-in x b (le-trans b (le-trans a h)) (place .placed) (place .number) (others .line) (others .lined) in
       record {
         line = put .line;
         whole = twice (keep (others .whole)) (put .whole);

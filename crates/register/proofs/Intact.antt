@@ -43,7 +43,8 @@ write-ends-nothing a v =
     (λ x.
     if-true EndsNothing (eqb (memory a writer-phase) 0) _ (refuse 5)
     (λ y.
-    if-true EndsNothing (ltb (memory a writes-ended) most-writes) (accept (begins-write v) false) (refuse 7) (λ z. refl)
+    if-true EndsNothing (ltb (memory a writes-ended) most-writes) (accept (begins-write v) false) (refuse 7)
+    (λ z. refl)
     (λ z. tt)) (λ y. tt)) (λ x. tt)
 
 step-ends : (n : ℕ) (m : Memory) (p : ℕ) (ends : Bool) (m′ : Memory) → is-end (seen n m (step p) ends m′) ≡ ends

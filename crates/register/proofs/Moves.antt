@@ -41,7 +41,8 @@ to-phase k = writer-phase ≔ k ∷ []
 -- one word filled in, and the phase after it
 abbrev pub fills-to : Memory → ℕ → List Store
 fills-to m k =
-    contents (m in-hand) (m writer-pos) ≔ m (write-record (m writer-pos)) ∷ writer-pos ≔ suc (m writer-pos) ∷ to-phase k
+    contents (m in-hand) (m writer-pos) ≔ m (write-record (m writer-pos)) ∷ writer-pos ≔ suc (m writer-pos)
+    ∷ to-phase k
 
 -- the record in reader r's desk
 abbrev pub desk-record : Memory → ℕ → Record

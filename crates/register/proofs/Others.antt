@@ -87,7 +87,8 @@ desk-same (Moves.copies-last q l e x) r d =
     }
 desk-same (Moves.write-starts u l e more) r d =
     record { phases = refl; flag = refl; length-word = refl; words = λ j. refl }
-desk-same (Moves.picks-empty e x y z) r d = record { phases = refl; flag = refl; length-word = refl; words = λ j. refl }
+desk-same (Moves.picks-empty e x y z) r d =
+    record { phases = refl; flag = refl; length-word = refl; words = λ j. refl }
 desk-same (Moves.picks-slot e x y z) r d = record { phases = refl; flag = refl; length-word = refl; words = λ j. refl }
 desk-same (Moves.passes-slot e x y) r d = record { phases = refl; flag = refl; length-word = refl; words = λ j. refl }
 desk-same (Moves.fills-word e x) r d = record { phases = refl; flag = refl; length-word = refl; words = λ j. refl }

@@ -259,7 +259,8 @@ module _ (n c : ℕ) (m : Memory) where
     plan-does (write u) = begin-planned u
     plan-does (step p) =
         if-less (Outcome p (seen n m (step p))) p n (reader-step n m p) _
-        (λ l. subst (λ b. Outcome p (seen-step b m p) (reader-step n m p)) (sym (ltb-below p n l)) (reader-planned p l))
+        (λ l. subst (λ b. Outcome p (seen-step b m p) (reader-step n m p)) (sym (ltb-below p n l))
+        (reader-planned p l))
         (λ l.
         if-equal (Outcome p (seen n m (step p))) p n (writer-step n m) (refuse 3)
         (λ e. subst (λ q. Outcome q (seen n m (step q)) (writer-step n m)) (sym e) writer-steps)

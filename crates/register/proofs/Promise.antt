@@ -103,7 +103,8 @@ module _ (n c : ℕ) (first : Record) (range : InRange n c) where
         subst₂ (λ j k. Does j k (memory a) (event a x) m′) (g .its-readers) (g .its-capacity)
         (subst (λ e. Does (readers a) (capacity a) (memory a) e m′) (sym (observed a x o)) (does o .0))
 
-    pub next-good : Good n c first all-moves (answered a x .area) (noted all-moves h (event a x .who) (event a x .what))
+    pub next-good : Good n c first all-moves (answered a x .area)
+        (noted all-moves h (event a x .who) (event a x .what))
     next-good =
         record {
           area = after-area o;

@@ -1,5 +1,5 @@
--- The runs that break document 01's four shortcuts, computed from the definitions: here each read gives what it should,
--- and a slot filled again has every word as an independent program has it. Assumes nothing.
+-- The runs that break document 01's four shortcuts, computed from the definitions: here each read gives what it
+-- should, and a slot filled again has every word as an independent program has it. Assumes nothing.
 use mathlib.Core.Path.{_≡_, refl}
 use mathlib.Core.List.{List, [], _∷_, _++_}
 use Prim.Native.Nat.{ℕ}

@@ -93,7 +93,8 @@ pub record WriterSteps (n looks made phase hand len pos new seen : ℕ) : Type 0
   pub rest : 3 ≤ phase → phase ≤ 6 → made + 3 ≡ looks + len + phase
   pub told : phase ≡ 7 → (made ≡ looks + len + 4) × (len ≡ new) × (looks ≡ seen)
 
-module _ {n looks made phase hand len pos new seen : ℕ} (v : WriterSteps n looks made phase hand len pos new seen) where
+module _ {n looks made phase hand len pos new seen : ℕ}
+    (v : WriterSteps n looks made phase hand len pos new seen) where
   pub look-finds : (phase′ : ℕ) → phase ≡ 1 → hand < n + 2 → (phase′ ≡ 2 → pos ≡ 0) → (phase′ ≡ 3 → len ≡ 0) → 2
       ≤ phase′ → phase′ ≤ 3
       → WriterSteps n (suc looks) (suc made) phase′ hand len pos new seen

@@ -1,5 +1,5 @@
--- One theory of layouts for any table of parts: addresses of different places differ, and stores to a list of words are
--- stores to its memory. Assumes nothing.
+-- One theory of layouts for any table of parts: addresses of different places differ, and stores to a list of words
+-- are stores to its memory. Assumes nothing.
 use mathlib.Core.Path.{_≡_, refl, sym, ap, ap₂, subst, _∙_, fun-ext}
 use mathlib.Core.Logic.{_≢_}
 use mathlib.Core.Bool.{Bool, true, false, cond, _&&_}

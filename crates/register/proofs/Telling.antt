@@ -66,7 +66,8 @@ module _ (n : ℕ) (first : Record) where
         (λ j. m (contents (index (m current)) j))
     newly-bound r =
         bound-to-newest h (h .began r) (m (len r)) (m (pos r)) (m (desk-write-number r)) (m (size (index (m current))))
-        (m (slot-write-number (index (m current)))) (λ j. m (read-record r j)) (λ j. m (contents (index (m current)) j))
+        (m (slot-write-number (index (m current)))) (λ j. m (read-record r j))
+        (λ j. m (contents (index (m current)) j))
         (v .newest-one .0) (v .newest-one .1) (v .sound)
 
     -- the word that reader r copies, and the word that the writer fills in
@@ -116,7 +117,8 @@ module _ (n : ℕ) (first : Record) where
         (omega arith) (v .writer .filled (omega arith) (omega arith))
         (λ z. v .writer .sized (omega arith) (omega arith))
 
-    pub tells : {c : ℕ} {e : Event} {m′ : Memory} → Does n c m e m′ → Told n first m′ (noted total h (e .who) (e .what))
+    pub tells : {c : ℕ} {e : Event} {m′ : Memory} → Does n c m e m′
+        → Told n first m′ (noted total h (e .who) (e .what))
     tells (Moves.read-starts r l e) =
         told-by r read-began tt (v .newest-one)
         (at-each (Reads n first (apply m (turns r 1)) (noted total h r read-began)) r

@@ -126,7 +126,8 @@ same-either false x = refl
 
 -- ---- what holds of either branch holds of the test
 
-pub if-true : {A : Type 0} (P : A → Type 0) (b : Bool) (x y : A) → (b ≡ true → P x) → (b ≡ false → P y) → P (cond b x y)
+pub if-true : {A : Type 0} (P : A → Type 0) (b : Bool) (x y : A) → (b ≡ true → P x) → (b ≡ false → P y)
+    → P (cond b x y)
 if-true P true x y f g = f refl
 if-true P false x y f g = g refl
 
@@ -138,7 +139,8 @@ if-equal P m n x y f g = go (ℕ-discrete m n)
     go (yes e) = subst P (sym (rw (eqb-equal m n e))) (f e)
     go (no d) = subst P (sym (miss m n d x y)) (g d)
 
-pub if-less : {A : Type 0} (P : A → Type 0) (m n : ℕ) (x y : A) → (m < n → P x) → (n ≤ m → P y) → P (cond (ltb m n) x y)
+pub if-less : {A : Type 0} (P : A → Type 0) (m n : ℕ) (x y : A) → (m < n → P x) → (n ≤ m → P y)
+    → P (cond (ltb m n) x y)
 if-less P m n x y f g = go (ltb m n) refl
   where
     go : (b : Bool) → ltb m n ≡ b → P (cond b x y)

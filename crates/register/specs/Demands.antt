@@ -144,7 +144,8 @@ pub record Makes : Type 0 where
       → length a ≡ 8 + (n + 2) * (4 + c) + n * (6 + c) + 7 + c → length v ≤ c → made 1 n c v a .number ≡ 0
   pub sound : (form n c : ℕ) (v : Record) (a : List ℕ) → made form n c v a .number ≡ 0
       → (is-area (made form n c v a .area) ≡ true) × (undamaged (made form n c v a .area) ≡ true)
-  pub refused : (form n c : ℕ) (v : Record) (a : List ℕ) → made form n c v a .number ≢ 0 → Refused a (made form n c v a)
+  pub refused : (form n c : ℕ) (v : Record) (a : List ℕ) → made form n c v a .number ≢ 0
+      → Refused a (made form n c v a)
 
 -- ---- the history leaves nothing out
 

@@ -102,8 +102,8 @@ pub record Write : Type 0 where
   pub looks : ℕ
   pub gives : Record
 
--- the moves so far; of each process the move that began its operation and its own steps since; the looks and the record
--- of the write under way; the finished reads and the published writes, newest first
+-- the moves so far; of each process the move that began its operation and its own steps since; the looks and the
+-- record of the write under way; the finished reads and the published writes, newest first
 pub record History : Type 0 where
   pub moves : ℕ
   pub began : ℕ → ℕ
