@@ -1,4 +1,4 @@
--- The proofs about run files: laws of the definitions, and what a run file's run is. Assumes nothing.
-pub mod Numbers
-pub mod Files
-pub mod Runs
+-- The proofs about the text: laws of the definitions. Assumes nothing.
+pub mod Putting
+pub mod Space
+pub mod Course

@@ -1,49 +1,30 @@
--- What the code's own types stand for in the definitions, and what its functions share. Assumes nothing.
-use mathlib.Core.Bool.{Bool}
+-- What the code's own types stand for in the definitions. Assumes nothing.
 use mathlib.Core.List.{List}
-use Prim.Native.Nat.{ℕ, _<_}
-use lib.ListN.{take, drop}
-use Rattle.register.specs.Steps.{read, step}
-use Rattle.bench.specs.RunFile.{readers, capacity, starting-length, moves, values, file-tests}
-use Rattle.bench.specs.RunFile.{Written, Asked, nothing, values-for, move}
-use Rattle.bench.specs.Play.{Tally}
-use Rattle.bench.specs.declared.types.Header.{Header}
-use Rattle.bench.specs.declared.types.Written as code-written
-use Rattle.bench.specs.declared.types.Asked as code-asked
-use Rattle.bench.specs.declared.types.Asked.the-variants as variants
-use Rattle.bench.specs.declared.tally.Tally as code-tally
+use Prim.Native.Nat.{ℕ}
+use Rattle.playing.specs.Play.{State, played, next}
+use Rattle.playing.specs.Code.{state}
+use Rattle.bench.specs.Printed.{move-line}
+use Rattle.runfile.specs.RunFile.{written}
+use Rattle.text.specs.Sheet.{Sheet, sheet, put}
+use Rattle.tally.specs.Tally.{Tally, as-tally, counted}
+use Rattle.bench.specs.declared.types.Progress as code-progress
 
--- ---- the header
+-- where a run has come to: the state, the text and the tally
+pub record Course : Type 0 where
+  pub state : State
+  pub text : Sheet
+  pub tally : Tally
 
-abbrev pub header-of : List ℕ → Header
-header-of b =
-    record { n = readers b; c = capacity b; starting = starting-length b; moves = moves b; values = values b }
+-- the words, the bytes and what the code keeps beside them
+abbrev pub as-course : List ℕ → List ℕ → code-progress.Progress → Course
+as-course a out g = record { state = state a (g .used); text = sheet out (g .end); tally = as-tally (g .tally) }
 
--- the tests of N, C and the starting length, which follow the test of the length
-abbrev pub size-tests : List ℕ → List Bool
-size-tests b = take 5 (drop 1 (file-tests b))
-
--- the tests of the moves, the values and their places, which come last
-abbrev pub part-tests : List ℕ → List Bool
-part-tests b = drop 6 (file-tests b)
-
--- ---- moves
-
-abbrev pub as-written : code-written.Written → Written
-as-written w = record { process = w .process; kind = w .kind; len = w .len }
-
-abbrev pub as-asked : code-asked.Asked → Asked
-as-asked variants.Nothing = nothing
-as-asked (variants.Values k) = values-for k
-as-asked (variants.Read p) = move (read p)
-as-asked (variants.Step p) = move (step p)
-
--- ---- the tally
-
-abbrev pub as-tally : code-tally.Tally → Tally
-as-tally t = record { accepted = t .accepted; refusals = t .refusals; greatest = t .greatest }
-
--- one more move can be counted, accepted or refused: both counts are below 2^64 − 1
-pub record Room (t : code-tally.Tally) : Type 0 where
-  pub accepted : t .accepted < 18446744073709551615
-  pub refusals : t .refusals < 18446744073709551615
+-- after one more move
+abbrev pub course-after : List ℕ → ℕ → Course → Course
+course-after b i g =
+    let x = played b (g .state) (written b i) .answer in
+    record {
+      state = next b (g .state) (written b i);
+      text = put (g .text) (move-line b i (g .state));
+      tally = counted (g .tally) (x .number) (x .age);
+    }

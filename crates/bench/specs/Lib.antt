@@ -1,6 +1,3 @@
--- Run files of document 01 as definitions, in the order in which to read them. Assumes nothing.
-pub mod Bytes
-pub mod RunFile
-pub mod Play
-pub mod Promise
+-- The text that the bench prints, as definitions, in the order in which to read them. Assumes nothing.
+pub mod Printed
 pub mod Code

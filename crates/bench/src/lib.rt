@@ -1,6 +1,4 @@
-// Run files: what one is, its moves one by one, and the tally of a run. The board itself is the crate register's.
-mod bytes;
-pub mod file;
-mod moves;
-mod tally;
+// The bench: the text of a run file's run, on any bytes.
+mod lines;
+pub mod printing;
 mod types;

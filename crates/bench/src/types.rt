@@ -1,29 +1,9 @@
-// What stands in a run file, by value.
+// What stands between the moves of a run, by value.
+use tally::Tally;
 
-// The counts of a header: N, C, the starting length, the moves and the values.
-pub struct Header {
-    pub n: usize,
-    pub c: usize,
-    pub starting: usize,
-    pub moves: usize,
-    pub values: usize,
-}
-
-// A move as its four bytes have it.
-pub struct Written {
-    pub process: u64,
-    pub kind: u64,
-    pub len: u64,
-}
-
-// What a move asks for.
-pub enum Asked {
-    // It is malformed.
-    Nothing,
-    // A begin of a write of so many values.
-    Values(u64),
-    // A begin of a read by this process.
-    Read(u64),
-    // A step of this process.
-    Step(u64),
+// Where the text ends, how many values are used up, and the tally.
+pub struct Progress {
+    pub end: usize,
+    pub used: u64,
+    pub tally: Tally,
 }

@@ -1,0 +1,49 @@
+-- Words enough for the area of any run, and the first of them. Assumes nothing.
+use mathlib.Core.Path.{_≡_, sym, ap, subst, _∙_}
+use mathlib.Core.Bool.{true}
+use mathlib.Core.List.{List}
+use Prim.Native.Nat.{ℕ, _+_, _*_, _≤_}
+use native.Mathlib.Nat.{mul-le-mul, le-trans}
+use native.Mathlib.Omega.{arith}
+use lib.ListN.{length, take}
+use lib.Seq.{length-take-le}
+use Rattle.register.specs.Table.{total}
+use Rattle.register.specs.Area.{form1}
+use Rattle.area.specs.Words.{layout-of}
+use Rattle.area.specs.declared.Layout.{Layout}
+use Rattle.runfile.specs.RunFile.{readers, capacity, is-run-file}
+use Rattle.runfile.specs.Code.{header-of}
+use Rattle.runfile.specs.declared.types.Header.{Header}
+use Rattle.runfile.proofs.Files.{file-facts}
+
+-- the largest area of a run: N = 8 and C = 32
+room-for-all : (n c : ℕ) → n ≤ 8 → c ≤ 32 → total (form1 n c) ≤ 711
+room-for-all n c few short =
+    let more : n + 2 ≤ 10 = omega arith in
+    let slot : 4 + c ≤ 36 = omega arith in
+    let desk : 6 + c ≤ 38 = omega arith in
+    let slots : (n + 2) * (4 + c) ≤ 10 * 36 = mul-le-mul more slot in
+    let desks : n * (6 + c) ≤ 8 * 38 = mul-le-mul few desk in
+    omega arith
+
+module _ (b : List ℕ) (e : is-run-file b ≡ true) (h : Header) (head : h ≡ header-of b) where
+  pub in-layout : (h .n ≤ 64) × (h .c ≤ 256)
+  in-layout =
+      let facts = file-facts b e in
+      (omega (arith, ap (λ z. z .n) head, facts .few-readers), omega (arith, ap (λ z. z .c) head, facts .few-words))
+
+  module _ (p : Layout) (laid : p ≡ layout-of (h .n) (h .c)) (space : List ℕ) (enough : 711 ≤ length space) where
+    its-total : p .total ≡ total (form1 (readers b) (capacity b))
+    its-total = ap (λ z. z .total) laid ∙ ap (λ z. total (form1 (z .n) (z .c))) head
+
+    pub inside : p .total ≤ length space
+    inside =
+        let facts = file-facts b e in
+        le-trans (subst (λ k. k ≤ 711) (sym its-total)
+        (room-for-all (readers b) (capacity b) (facts .few-readers) (facts .few-words))) enough
+
+    pub front-exact : p .total ≡ length (take (p .total) space)
+    front-exact = sym (length-take-le (p .total) space inside)
+
+    pub front-total : length (take (p .total) space) ≡ total (form1 (readers b) (capacity b))
+    front-total = sym front-exact ∙ its-total

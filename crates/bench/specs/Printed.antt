@@ -1,0 +1,77 @@
+-- The text that the bench prints: of a run, or of a file that is none. Assumes nothing.
+use mathlib.Core.Bool.{Bool, cond, _&&_}
+use mathlib.Core.List.{List, [], _∷_, _++_, map}
+use Prim.Native.Nat.{ℕ, zero, suc}
+use lib.Dec.{eqb, ltb}
+use Rattle.register.specs.Area.{current, memory}
+use Rattle.register.specs.Calls.{Answer, shown}
+use Rattle.runfile.specs.RunFile.{readers, capacity, moves, is-run-file, Written, written}
+use Rattle.text.specs.Lines.{Text, decimal, line}
+use Rattle.tally.specs.Tally.{Tally, no-tally}
+use Rattle.playing.specs.Play.{State, played, next, answers, state-after, tally-of, first-state}
+
+-- ---- one move
+
+-- 'B' for a begin, 'S' for a step, '?' for another kind
+abbrev pub letter : ℕ → ℕ
+letter kind = cond (eqb kind 0) 66 (cond (eqb kind 1) 83 63)
+
+abbrev pub one-if : Bool → ℕ
+one-if t = cond t 1 0
+
+-- after a finished read also the age and the words
+abbrev pub read-fields : ℕ → Written → Answer → List Text
+read-fields n w x =
+    cond (x .ended && ltb (w .process) n)
+    (decimal (x .age) ∷ map decimal (shown (x .area) (w .process) []))
+    []
+
+-- a move's number, process, B or S, answer number, 1 if an operation ended or else 0
+abbrev pub answer-line : ℕ → ℕ → Written → Answer → Text
+answer-line n i w x =
+    line (decimal i)
+    (decimal (w .process) ∷ (letter (w .kind) ∷ []) ∷ decimal (x .number) ∷ decimal (one-if (x .ended))
+    ∷ read-fields n w x)
+
+abbrev pub move-line : List ℕ → ℕ → State → Text
+move-line b i s = answer-line (readers b) i (written b i) (played b s (written b i) .answer)
+
+-- the lines of k moves from move i on
+abbrev pub move-lines : List ℕ → ℕ → ℕ → State → Text
+move-lines b zero i s = []
+move-lines b (suc k) i s = move-line b i s ++ move-lines b k (suc i) (next b s (written b i))
+
+-- ---- the whole text
+
+-- 'run', 'end', 'refused'
+abbrev pub run-word : Text
+run-word = 114 ∷ 117 ∷ 110 ∷ []
+
+abbrev pub end-word : Text
+end-word = 101 ∷ 110 ∷ 100 ∷ []
+
+abbrev pub refused-word : Text
+refused-word = 114 ∷ 101 ∷ 102 ∷ 117 ∷ 115 ∷ 101 ∷ 100 ∷ []
+
+abbrev pub first-line : List ℕ → Text
+first-line b = line run-word (decimal (readers b) ∷ decimal (capacity b) ∷ decimal (moves b) ∷ [])
+
+-- the current word, accepted moves, refused moves, greatest age
+abbrev pub last-line : List ℕ → Tally → Text
+last-line a t =
+    line end-word
+    (decimal (memory a current) ∷ decimal (t .accepted) ∷ decimal (t .refusals) ∷ decimal (t .greatest) ∷ [])
+
+-- the lines of a run's moves from a state on, and the last line
+abbrev pub lines-from : List ℕ → ℕ → ℕ → State → Tally → Text
+lines-from b k i s t =
+    move-lines b k i s ++ last-line (state-after b k i s .area) (tally-of t (answers b k i s))
+
+unfoldable pub run-text : List ℕ → Text
+run-text b = first-line b ++ lines-from b (moves b) 0 (first-state b) no-tally
+
+abbrev pub refused-text : Text
+refused-text = line refused-word (decimal 11 ∷ [])
+
+unfoldable pub printed : List ℕ → Text
+printed b = cond (is-run-file b) (run-text b) refused-text

@@ -1,0 +1,115 @@
+// The text of a run file's run, put into lent bytes. Any bytes are taken as a file.
+use crate::lines::put_first;
+use crate::lines::put_last;
+use crate::lines::put_move;
+use crate::lines::put_refused;
+use crate::types::Progress;
+use area::Layout;
+use board::making;
+use playing::moves::play_move;
+use playing::taking::take_values;
+use runfile::file;
+use runfile::moves;
+use tally::Tally;
+ghost use mathlib.Core.Bool.{true};
+ghost use mathlib.Core.Path.{_≡_};
+ghost use Prim.Native.Nat.{_≤_};
+ghost use lib.ListN.{length};
+ghost use Rattle.io.specs.Counts.{Counts};
+ghost use Rattle.register.specs.Table.{total};
+ghost use Rattle.register.specs.Area.{form1};
+ghost use Rattle.runfile.specs.RunFile.{readers, capacity, starting-length, is-run-file};
+ghost use Rattle.runfile.specs.RunFile.{moves as RunFile·moves};
+ghost use Rattle.text.specs.Sheet.{sheet, put};
+ghost use Rattle.tally.specs.Tally.{no-tally, Room};
+ghost use Rattle.playing.specs.Play.{first-state};
+ghost use Rattle.bench.specs.Printed.{lines-from, run-text, printed};
+ghost use Rattle.playing.specs.Code.{state};
+ghost use Rattle.bench.specs.Code.{as-course, course-after};
+
+// Puts the text of these bytes: that of the run if they are a run file, and one line if not. Returns where it ends.
+pub fn put_text(file: &[u8], out: &mut [u8]) -> usize
+    ensures { λ r. ⌜ sheet (now (out .exit)) r ≡ put (sheet (now (out .entry)) 0) (printed (now (file .entry))) ⌝ }
+    ensures { λ r. ⌜ Counts r (now (out .exit)) ⌝ }
+{
+    if !file::is_run_file(file) {
+        return put_refused(out, 0);
+    }
+    let mut space = [0u64; 711];
+    put_run_in(file, &mut space, out)
+}
+
+// The text of a run, on the first words of some that are enough for any run.
+fn put_run_in(file: &[u8], space: &mut [u64], out: &mut [u8]) -> usize
+    requires { ⌜ (is-run-file (now file) ≡ true) × (711 ≤ length (now space)) ⌝ }
+    ensures { λ r. ⌜ sheet (now (out .exit)) r ≡ put (sheet (now (out .entry)) 0) (run-text (now (file .entry))) ⌝ }
+{
+    let h = file::header(file);
+    let p = Layout::new(h.n as usize, h.c as usize);
+    put_run(file, &mut space[..p.total], out)
+}
+
+// The text of a run, on words that are as many as its area has.
+fn put_run(file: &[u8], area: &mut [u64], out: &mut [u8]) -> usize
+    requires { ⌜ is-run-file (now file) ≡ true ⌝ }
+    requires { ⌜ length (now area) ≡ total (form1 (readers (now file)) (capacity (now file))) ⌝ }
+    ensures { λ r. ⌜ sheet (now (out .exit)) r ≡ put (sheet (now (out .entry)) 0) (run-text (now (file .entry))) ⌝ }
+{
+    start(file, area);
+    let end = put_first(out, 0, file);
+    put_moves(file, area, out, end)
+}
+
+// A fresh area with the starting record.
+fn start(file: &[u8], area: &mut [u64])
+    requires { ⌜ is-run-file (now file) ≡ true ⌝ }
+    requires { ⌜ length (now area) ≡ total (form1 (readers (now file)) (capacity (now file))) ⌝ }
+    ensures { λ _. ⌜ now (area .exit) ≡ first-state (now (file .entry)) .area ⌝ }
+{
+    let h = file::header(file);
+    let mut words = [0u64; 32];
+    let k = h.starting as usize;
+    take_values(file, 0, &mut words, k);
+    making::make(1, h.n as u64, h.c as u64, &words[..k], area);
+}
+
+// The lines of the moves and the last line, behind the first one.
+fn put_moves(file: &[u8], area: &mut [u64], out: &mut [u8], at: usize) -> usize
+    ensures { λ r. ⌜ sheet (now (out .exit)) r ≡ put (sheet (now (out .entry)) at)
+        (lines-from (now (file .entry)) (RunFile·moves (now (file .entry))) 0
+        (state (now (area .entry)) (starting-length (now (file .entry)))) no-tally) ⌝ }
+{
+    let h = file::header(file);
+    let t = Tally {
+        accepted: 0,
+        refusals: 0,
+        greatest: 0,
+    };
+    let mut g = Progress {
+        end: at,
+        used: h.starting as u64,
+        tally: t,
+    };
+    let mut i = 0;
+    while i < h.moves {
+        g = put_next(file, i, area, out, g);
+        i += 1;
+    }
+    put_last(out, g.end, area, g.tally)
+}
+
+// Plays move i and puts its line.
+fn put_next(file: &[u8], i: u32, area: &mut [u64], out: &mut [u8], g: Progress) -> Progress
+    requires { ⌜ Room (g .tally) ⌝ }
+    ensures { λ r. ⌜ as-course (now (area .exit)) (now (out .exit)) r
+        ≡ course-after (now (file .entry)) i (as-course (now (area .entry)) (now (out .entry)) g) ⌝ }
+{
+    let h = file::header(file);
+    let w = moves::written_move(file, i);
+    let x = play_move(file, i, area, g.used);
+    Progress {
+        end: put_move(out, g.end, h.n as u64, i, w, x, area),
+        used: x.used,
+        tally: tally::brought_up(g.tally, x.number, x.age),
+    }
+}

@@ -1,0 +1,69 @@
+// Plays run files and compares each text with the expected one, byte by byte. The arguments name a run file, its text,
+// the next run file, its text, and so on.
+ghost use Prim.Native.Nat.{_*_, _≤_};
+ghost use Rattle.io.specs.Counts.{Counts};
+
+// The bytes of the file that argument i names, and how many there are.
+fn read_file(i: usize, buf: &mut [u8]) -> usize
+    ensures { λ r. ⌜ Counts r (now (buf .exit)) ⌝ }
+{
+    let mut path = io::buffer();
+    let length = os::arg(i, &mut path);
+    if os::errno() != 0 {
+        return 0;
+    }
+    let fd = os::open_read(&path[..length]);
+    if fd < 0 {
+        return 0;
+    }
+    let count = io::read_full(fd, buf);
+    libc::close(fd);
+    count
+}
+
+// Whether the run file that one argument names has the text that another names.
+fn holds(run: usize, expected: usize) -> bool {
+    let mut file = [0u8; 24029];
+    let length = read_file(run, &mut file);
+    let mut wanted = [0u8; 160000];
+    let size = read_file(expected, &mut wanted);
+    let mut text = [0u8; 160000];
+    let end = bench::printing::put_text(&file[..length], &mut text);
+    text::same(&text[..end], &wanted[..size])
+}
+
+// 1 for a case that holds; one that does not is told by its name, and counts 0.
+fn counted(run: usize, expected: usize) -> usize
+    ensures { λ r. ⌜ r ≤ 1 ⌝ }
+{
+    if holds(run, expected) {
+        return 1;
+    }
+    let mut path = io::buffer();
+    let length = os::arg(run, &mut path);
+    io::write_all(1, &path[..length]);
+    io::write_all(1, b" differs\n");
+    0
+}
+
+// How many of so many cases hold.
+fn all(count: usize) -> usize
+    requires { ⌜ 2 * count ≤ 18446744073709551615 ⌝ }
+{
+    let mut held = 0;
+    let mut i = 0;
+    while i < count {
+        held += counted(2 * i + 1, 2 * i + 2);
+        i += 1;
+    }
+    held
+}
+
+fn main() {
+    let count = os::arg_count() / 2;
+    let held = all(count);
+    io::print_decimal(1, held as u64);
+    io::write_all(1, b" of ");
+    io::print_decimal(1, count as u64);
+    io::write_all(1, b" cases hold\n");
+}

@@ -1,0 +1,5 @@
+-- The proofs about runs: laws of the definitions, and what a run file's run is. Assumes nothing.
+pub mod Values
+pub mod Starting
+pub mod OneMove
+pub mod Runs

@@ -1,0 +1,58 @@
+-- The area that a run starts with is made of words of the right number. Assumes nothing.
+use mathlib.Core.Path.{_≡_, ap, _∙_}
+use mathlib.Core.Bool.{true}
+use mathlib.Core.List.{List}
+use Prim.Native.Nat.{ℕ, _+_, _*_, _≤_}
+use native.Mathlib.Omega.{arith}
+use lib.ListN.{length, take, replicate}
+use Rattle.register.specs.Table.{total}
+use Rattle.register.specs.Area.{form1}
+use Rattle.register.specs.Calls.{made}
+use Rattle.register.proofs.Made.{Made, made-well, makes}
+use Rattle.answer.specs.Carried.{whole}
+use Rattle.answer.specs.declared.Answer.{Answer as Returned}
+use Rattle.runfile.specs.Bytes.{words-at}
+use Rattle.runfile.specs.RunFile.{readers, capacity, values-at, starting-length, starting-record, is-run-file}
+use Rattle.runfile.specs.Code.{header-of}
+use Rattle.runfile.specs.declared.types.Header.{Header}
+use Rattle.runfile.proofs.Files.{FileFacts, file-facts}
+use Rattle.text.specs.Sheet.{pasted}
+use Rattle.playing.specs.Play.{first-state}
+use Rattle.playing.proofs.Values.{place, words-length, front-words}
+
+module _ (b : List ℕ) (e : is-run-file b ≡ true) where
+  facts : FileFacts b
+  facts = file-facts b e
+
+  -- the starting record is not too long
+  pub short : length (starting-record b) ≤ capacity b
+  short = omega (arith, words-length (starting-length b) b (values-at b), facts .short)
+
+  -- words of the right number are taken, and filled as a fresh area
+  pub well : (a : List ℕ) → length a ≡ total (form1 (readers b) (capacity b))
+      → made 1 (readers b) (capacity b) (starting-record b) a .number ≡ 0
+  well a exact =
+      makes .accepted (readers b) (capacity b) (starting-record b) a (facts .some-readers)
+      (omega (arith, facts .few-readers)) (facts .some-words) (omega (arith, facts .few-words))
+      (exact ∙ omega arith) short
+
+  pub started : (a : List ℕ) → length a ≡ total (form1 (readers b) (capacity b))
+      → made 1 (readers b) (capacity b) (starting-record b) a .area ≡ first-state b .area
+  started a exact = made-well 1 (readers b) (capacity b) (starting-record b) a (well a exact) .area
+
+  pub few-starting : (h : Header) → h ≡ header-of b → h .starting ≤ 32
+  few-starting h head = omega (arith, ap (λ z. z .starting) head, facts .short, facts .few-words)
+
+  -- so it is where the record was taken into 32 words
+  pub started-with : (a a′ l : List ℕ) (h : Header) (r : Returned) → length a ≡ total (form1 (readers b) (capacity b))
+      → h ≡ header-of b → l ≡ pasted (replicate 32 0) 0 (words-at (h .starting) b (place b 0))
+      → whole r a′ ≡ made 1 (h .n) (h .c) (take (h .starting) l) a → a′ ≡ first-state b .area
+  started-with a a′ l h r exact head full called =
+      ap (λ y. y .area) called
+      ∙ ap (λ v. made 1 (h .n) (h .c) v a .area) (front-words 32 (h .starting) b (place b 0) l (few-starting h head) full)
+      ∙ ap (λ z. made 1 (z .n) (z .c) (words-at (z .starting) b (place b 0)) a .area) head
+      ∙ ap (λ i. made 1 (readers b) (capacity b) (words-at (starting-length b) b i) a .area) at-once
+      ∙ started a exact
+    where
+      at-once : place b 0 ≡ values-at b
+      at-once = omega arith

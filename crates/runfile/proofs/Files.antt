@@ -1,0 +1,155 @@
+-- Run files by their tests: what one that passed has, and what each test of the code decides. Assumes nothing.
+use mathlib.Core.Path.{_≡_, refl, sym, ap, subst, _∙_}
+use mathlib.Core.Bool.{Bool, true, false, _&&_}
+use mathlib.Core.List.{List, [], _∷_, _++_}
+use Prim.Native.Nat.{ℕ, zero, suc, _+_, _*_, _≤_, _<_}
+use native.Mathlib.Omega.{arith}
+use borrow.Author.Tests.{le-leb, lt-leb, eq-eqb, ne-eqb}
+use lib.Dec.{T, eqb, leb, leb→le, eqb→eq}
+use lib.ListN.{length, take, getD}
+use Rattle.register.specs.Area.{all}
+use Rattle.register.specs.Demands.{Each, none, also}
+use Rattle.register.proofs.Tests.{true-passes, each-passes}
+use Rattle.runfile.specs.RunFile.{readers, capacity, starting-length, moves, moves-at, values, values-at}
+use Rattle.runfile.specs.RunFile.{file-tests, is-run-file, Written, written}
+use Rattle.runfile.specs.Bytes.{number-at}
+use Rattle.runfile.specs.Code.{size-tests, part-tests}
+
+-- ---- a file that passed
+
+pub record FileFacts (b : List ℕ) : Type 0 where
+  pub whole-header : 28 ≤ length b
+  pub some-readers : 1 ≤ readers b
+  pub few-readers : readers b ≤ 8
+  pub some-words : 1 ≤ capacity b
+  pub few-words : capacity b ≤ 32
+  pub short : starting-length b ≤ capacity b
+  pub few-moves : moves b ≤ 4000
+  pub moves-place : moves-at b ≡ 28
+  pub few-values : values b ≤ 1000
+  pub recorded : starting-length b ≤ values b
+  pub values-place : values-at b ≡ 28 + 4 * moves b
+  pub exact : length b ≡ 28 + 4 * moves b + 8 * values b
+
+pub file-facts : (b : List ℕ) → is-run-file b ≡ true → FileFacts b
+unfolding is-run-file
+file-facts b e = go (each-passes (file-tests b) (true-passes _ e))
+  where
+    go : Each T (file-tests b) → FileFacts b
+    go
+        (also l (also n1 (also n8 (also c1 (also c32 (also i (also m (also p
+        (also v (also j (also q (also x none))))))))))))
+        =
+        record {
+          whole-header = leb→le _ _ l;
+          some-readers = leb→le _ _ n1;
+          few-readers = leb→le _ _ n8;
+          some-words = leb→le _ _ c1;
+          few-words = leb→le _ _ c32;
+          short = leb→le _ _ i;
+          few-moves = leb→le _ _ m;
+          moves-place = eqb→eq _ _ p;
+          few-values = leb→le _ _ v;
+          recorded = leb→le _ _ j;
+          values-place = eqb→eq _ _ q;
+          exact = eqb→eq _ _ x;
+        }
+
+-- a move from the numbers that were read at its place
+pub move-read : (b : List ℕ) (k process kind len : ℕ) → process ≡ number-at 1 b (28 + 4 * k)
+    → kind ≡ number-at 1 b (28 + 4 * k + 1) → len ≡ number-at 2 b (28 + 4 * k + 2)
+    → _≡_ {A = Written} (record { process = process; kind = kind; len = len }) (written b k)
+move-read b k process kind len p q l =
+    let e : process ≡ getD b (28 + 4 * k) 0 = omega arith in
+    let d : kind ≡ getD b (28 + 4 * k + 1) 0 = omega arith in
+    rw (e, d, l)
+
+-- ---- lists of tests
+
+-- one that fails fails them all
+fails : (l : List Bool) (k : ℕ) → getD l k true ≡ false → false ≡ all l
+fails [] k e = sym e
+fails (true ∷ l) zero e = absurd (subst T e tt)
+fails (false ∷ l) zero e = refl
+fails (true ∷ l) (suc k) e = fails l k e
+fails (false ∷ l) (suc k) e = refl
+
+-- behind those that pass the last one decides
+last-decides : (l : List Bool) (t : Bool) → Each (λ x. x ≡ true) l → t ≡ all (l ++ (t ∷ []))
+last-decides [] true none = refl
+last-decides [] false none = refl
+last-decides (x ∷ l) t (also e rest) = rw e (last-decides l t rest)
+
+all-joined : (l k : List Bool) → all (l ++ k) ≡ all l && all k
+all-joined [] k = refl
+all-joined (true ∷ l) k = all-joined l k
+all-joined (false ∷ l) k = refl
+
+-- ---- N, C and the starting length, as the code has read them
+
+module _ (b : List ℕ) (n c : ℕ) (the-n : n ≡ readers b) (the-c : c ≡ capacity b) where
+  pub no-readers : n < 1 → false ≡ all (size-tests b)
+  no-readers h = fails (size-tests b) 0 (lt-leb 1 (readers b) (omega arith))
+
+  pub many-readers : 8 < n → false ≡ all (size-tests b)
+  many-readers h = fails (size-tests b) 1 (lt-leb (readers b) 8 (omega arith))
+
+  pub no-words : c < 1 → false ≡ all (size-tests b)
+  no-words h = fails (size-tests b) 2 (lt-leb 1 (capacity b) (omega arith))
+
+  pub many-words : 32 < c → false ≡ all (size-tests b)
+  many-words h = fails (size-tests b) 3 (lt-leb (capacity b) 32 (omega arith))
+
+  pub sizes-end : (s : ℕ) → s ≡ starting-length b → 1 ≤ n → n ≤ 8 → 1 ≤ c → c ≤ 32 → leb s c ≡ all (size-tests b)
+  sizes-end s the-s n1 n8 c1 c32 =
+      let same : leb s c ≡ leb (starting-length b) (capacity b) = rw (the-s, the-c) in
+      same
+      ∙ last-decides (take 4 (size-tests b)) (leb (starting-length b) (capacity b))
+      (also (le-leb 1 (readers b) (omega arith)) (also (le-leb (readers b) 8 (omega arith))
+      (also (le-leb 1 (capacity b) (omega arith)) (also (le-leb (capacity b) 32 (omega arith)) none))))
+
+-- ---- the moves, the values and their places, as the code has read them
+
+module _ (b : List ℕ) (m v : ℕ) (the-m : m ≡ moves b) (the-v : v ≡ values b) where
+  pub many-moves : 4000 < m → false ≡ all (part-tests b)
+  many-moves h = fails (part-tests b) 0 (lt-leb (moves b) 4000 (omega arith))
+
+  pub moves-misplaced : (x : ℕ) → x ≡ moves-at b → (x ≡ 28 → ⊥) → false ≡ all (part-tests b)
+  moves-misplaced x e d = fails (part-tests b) 1 (ne-eqb (moves-at b) 28 (λ z. d (e ∙ z)))
+
+  pub many-values : 1000 < v → false ≡ all (part-tests b)
+  many-values h = fails (part-tests b) 2 (lt-leb (values b) 1000 (omega arith))
+
+  pub not-recorded : (s : ℕ) → s ≡ starting-length b → v < s → false ≡ all (part-tests b)
+  not-recorded s e h = fails (part-tests b) 3 (lt-leb (starting-length b) (values b) (omega arith))
+
+  pub values-misplaced : (x : ℕ) → x ≡ values-at b → (x ≡ 28 + 4 * m → ⊥) → false ≡ all (part-tests b)
+  values-misplaced x e d = fails (part-tests b) 4 (ne-eqb (values-at b) (28 + 4 * moves b) (λ z. d (omega arith)))
+
+  pub parts-end : (x s y : ℕ) → x ≡ moves-at b → s ≡ starting-length b → y ≡ values-at b → m ≤ 4000 → x ≡ 28
+      → v ≤ 1000 → s ≤ v → y ≡ 28 + 4 * m → eqb (length b) (28 + 4 * m + 8 * v) ≡ all (part-tests b)
+  parts-end x s y the-x the-s the-y few placed some recorded behind =
+      let last = eqb (length b) (28 + 4 * moves b + 8 * values b) in
+      let same : eqb (length b) (28 + 4 * m + 8 * v) ≡ last = rw (the-m, the-v) in
+      same
+      ∙ last-decides (take 5 (part-tests b)) last
+      (also (le-leb (moves b) 4000 (omega arith)) (also (eq-eqb (moves-at b) 28 (omega arith))
+      (also (le-leb (values b) 1000 (omega arith)) (also (le-leb (starting-length b) (values b) (omega arith))
+      (also (eq-eqb (values-at b) (28 + 4 * moves b) (omega arith)) none)))))
+
+-- ---- the whole test
+
+module _ (b : List ℕ) where
+  in-three : is-run-file b ≡ leb 28 (length b) && (all (size-tests b) && all (part-tests b))
+  unfolding is-run-file
+  in-three = ap (λ x. leb 28 (length b) && x) (all-joined (size-tests b) (part-tests b))
+
+  pub too-short : length b < 28 → false ≡ is-run-file b
+  too-short h = sym (rw (in-three, lt-leb 28 (length b) h))
+
+  pub sizes-fail : (r : Bool) → 28 ≤ length b → r ≡ all (size-tests b) → r ≡ false → r ≡ is-run-file b
+  sizes-fail r h e f = f ∙ sym (rw (in-three, le-leb 28 (length b) h, ← e, f))
+
+  pub parts-decide : (s r : Bool) → 28 ≤ length b → s ≡ all (size-tests b) → s ≡ true → r ≡ all (part-tests b)
+      → r ≡ is-run-file b
+  parts-decide s r h e t d = d ∙ sym (rw (in-three, le-leb 28 (length b) h, ← e, t))

@@ -1,0 +1,3 @@
+-- The proofs about run files: laws of the definitions. Assumes nothing.
+pub mod Numbers
+pub mod Files

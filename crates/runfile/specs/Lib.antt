@@ -1,0 +1,4 @@
+-- Run files of document 01 as definitions, in the order in which to read them. Assumes nothing.
+pub mod Bytes
+pub mod RunFile
+pub mod Code

@@ -1,0 +1,2 @@
+-- The tally of a run. Assumes nothing.
+pub mod Tally

@@ -1,0 +1,15 @@
+-- `text::put_none` meets its contract: a text ends inside its bytes. Assumes nothing.
+use native.Mathlib.Omega.{arith}
+use mathlib.Core.List.{[]}
+use Rattle.text.proofs.Sheets.{put-nothing, put-past}
+use Rattle.text.proofs.put_none.Statement.{statement}
+use Rattle.text.proofs.put_none.Tie as tie
+
+returns : tie.Need-returns
+returns c = put-past _ _ [] (c .if1 .taken)
+
+returns-2 : tie.Need-returns-2
+returns-2 c = put-nothing _ _ (omega arith)
+
+pub put-none-spec : {M : Type 1} → statement M
+put-none-spec = tie.close (tie.spec returns returns-2)
