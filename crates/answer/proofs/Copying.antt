@@ -13,7 +13,8 @@ use Rattle.area.specs.Words.{after}
 use Rattle.area.specs.declared.Layout.{Layout}
 
 -- stores leave the number of words
-after-length : (p : Layout) (a : List ℕ) {b : List ℕ} (l : List Store) → b ≡ after p a l → length b ≡ length a
+after-length : (p : Layout) (a : List ℕ) {b : List ℕ} (l : List Store) → b ≡ after p a l
+    → length b ≡ length a
 after-length p a l e = ap length e ∙ length-store (form1 (p .n) (p .c)) a l
 
 -- words a₀ became a when i words of v were copied into a row: the stores that are left make what all of them make
@@ -26,7 +27,8 @@ pub record Copying (p : Layout) (at : ℕ → Place) (v : Record) (a₀ a : List
 pub copying-none : (p : Layout) (at : ℕ → Place) (v : Record) (a : List ℕ) → Copying p at v a a 0
 copying-none p at v a = record { within = omega arith; as-many = refl; rest = refl }
 
-module _ {p : Layout} {at : ℕ → Place} {v : Record} {a₀ a : List ℕ} {i : ℕ} (x : Copying p at v a₀ a i) where
+module _ {p : Layout} {at : ℕ → Place} {v : Record} {a₀ a : List ℕ} {i : ℕ}
+    (x : Copying p at v a₀ a i) where
   -- one word more
   pub copying-more : {b : List ℕ} → i < length v → b ≡ after p a (at i ≔ getD v i 0 ∷ [])
       → Copying p at v a₀ b (i + 1)

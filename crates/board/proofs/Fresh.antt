@@ -36,14 +36,15 @@ module _ {p : Layout} (l : Laid p) (a : List ℕ) where
   offsets-set = ap (λ q. set (set (set (set a 4 (q .slots)) 5 (q .desks)) 6 (q .writer)) 7 (p .n)) (l .exact)
 
 -- the size, and then the record's words
-pub starting-set : {p : Layout} (a : List ℕ) {v : Record} {b d : List ℕ} {i : ℕ} → Copying p (contents 0) v b d i
-    → b ≡ after p a (size 0 ≔ length v ∷ []) → length v ≤ i → d ≡ after p a (starting v)
+pub starting-set : {p : Layout} (a : List ℕ) {v : Record} {b d : List ℕ} {i : ℕ}
+    → Copying p (contents 0) v b d i → b ≡ after p a (size 0 ≔ length v ∷ []) → length v ≤ i
+    → d ≡ after p a (starting v)
 starting-set {p} a {v} x e h = copying-done x h ∙ ap (λ s. after p s (copied (contents 0) 0 v)) e
 
 -- all words 0, and then the three lots of stores
 pub filled : {p : Layout} {a b d e f : List ℕ} (v : Record) → Sized p a → b ≡ replicate (length a) 0
-    → d ≡ after p b (numbers (p .n) (p .c)) → e ≡ after p d (offsets (p .n) (p .c)) → f ≡ after p e (starting v)
-    → f ≡ fresh (p .n) (p .c) v
+    → d ≡ after p b (numbers (p .n) (p .c)) → e ≡ after p d (offsets (p .n) (p .c))
+    → f ≡ after p e (starting v) → f ≡ fresh (p .n) (p .c) v
 filled {p} v s w x y z =
     z
     ∙ ap (λ q. after p q (starting v)) (y ∙ ap (λ q. after p q (offsets (p .n) (p .c)))
@@ -60,8 +61,8 @@ tested : (form n c : ℕ) {r : Bool} → r ≡ in-range n c → known-form form 
 tested form n c e = ap (λ b. known-form form && b) e
 
 -- an unknown form, or N or C out of range: 9
-pub made-unknown : (form n c : ℕ) (v : Record) (a : List ℕ) {x : Answer} {r : Bool} → x ≡ answer 9 → r ≡ in-range n c
-    → not (known-form form && r) ≡ true → whole x a ≡ made form n c v a
+pub made-unknown : (form n c : ℕ) (v : Record) (a : List ℕ) {x : Answer} {r : Bool} → x ≡ answer 9
+    → r ≡ in-range n c → not (known-form form && r) ≡ true → whole x a ≡ made form n c v a
 unfolding made
 made-unknown form n c v a e k h = rw (e, was-no (tested form n c k) h)
 
@@ -72,7 +73,8 @@ pub record Taken (form n c : ℕ) : Type 0 where
   pub few-words : c ≤ 256
 
 -- the code's test passes where making takes them
-pub taken-of : (form n c : ℕ) {r : Bool} → r ≡ in-range n c → not (known-form form && r) ≡ false → Taken form n c
+pub taken-of : (form n c : ℕ) {r : Bool} → r ≡ in-range n c → not (known-form form && r) ≡ false
+    → Taken form n c
 taken-of form n c e h =
     let k = was-yes (tested form n c e) h in
     let range = range-facts n c (both (known-form form) (in-range n c) (true-passes _ k) .1) in
@@ -110,7 +112,7 @@ module _ {form n c : ℕ} (t : Taken form n c) {p : Layout} (l : p ≡ layout-of
         (ap (λ d. whole (answer 0) d) (f ∙ ap (λ q. fresh (q .n) (q .c) v) l))
 
 -- the words that are filled
-pub made-sized : {form n c : ℕ} {p : Layout} {a : List ℕ} → Taken form n c → p ≡ layout-of n c → length a ≡ p .total
-    → Sized p a
+pub made-sized : {form n c : ℕ} {p : Layout} {a : List ℕ} → Taken form n c → p ≡ layout-of n c
+    → length a ≡ p .total → Sized p a
 made-sized t l s =
     let here = laid-of (t .few-readers) (t .few-words) l in record { laid = here; exact = s ∙ total-is here }

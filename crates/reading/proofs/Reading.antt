@@ -28,7 +28,8 @@ use Rattle.reading.proofs.Storing.{then, refuses, accepts, goes-on}
 -- ---- what an undamaged area says of a reader's desk
 
 -- the slot that the reader is bound to
-pub bound-slot : {p : Layout} {a : List ℕ} {r s : ℕ} → Ready p a → r < p .n → s ≡ memory-of p a (last r) → s < p .n + 2
+pub bound-slot : {p : Layout} {a : List ℕ} {r s : ℕ} → Ready p a → r < p .n → s ≡ memory-of p a (last r)
+    → s < p .n + 2
 bound-slot {r = r} v h e = rw e (v .sound .desk r h .slot)
 
 -- the word that the reader copies
@@ -61,34 +62,38 @@ ended p r a s h e f g =
 module _ (p : Layout) (r : ℕ) (a : List ℕ) (m : Memory) where
   -- ---- a begin
 
-  pub no-reader : {x : Returned} → p .n ≤ r → x ≡ returned 3 false → whole x a ≡ carried p r a (read-plan (p .n) m r)
+  pub no-reader : {x : Returned} → p .n ≤ r → x ≡ returned 3 false
+      → whole x a ≡ carried p r a (read-plan (p .n) m r)
   no-reader h = refuses p r a (read-plan (p .n) m r) 3 (rw (ltb-beyond r (p .n) h))
 
   pub busy : {f : ℕ} {x : Returned} → r < p .n → f ≡ m (phase r) → f ≢ 0 → x ≡ returned 5 false
       → whole x a ≡ carried p r a (read-plan (p .n) m r)
   busy {f} h e d = refuses p r a (read-plan (p .n) m r) 5 (rw (ltb-below r (p .n) h, ← e, eqb-other f 0 d))
 
-  pub begun : {f : ℕ} {x : Returned} {b : List ℕ} → r < p .n → f ≡ m (phase r) → f ≡ 0 → x ≡ returned 0 false
-      → b ≡ after p a (turns r 1) → whole x b ≡ carried p r a (read-plan (p .n) m r)
+  pub begun : {f : ℕ} {x : Returned} {b : List ℕ} → r < p .n → f ≡ m (phase r) → f ≡ 0
+      → x ≡ returned 0 false → b ≡ after p a (turns r 1)
+      → whole x b ≡ carried p r a (read-plan (p .n) m r)
   begun {f} h e d =
       accepts p r a (read-plan (p .n) m r) (turns r 1) (rw (ltb-below r (p .n) h, ← e, eqb-equal f 0 d))
 
   -- ---- step 1
 
-  pub stays : {w l f : ℕ} {x : Returned} {b : List ℕ} → w ≡ m current → l ≡ m (last r) → index w ≡ l → f ≡ 4
-      → x ≡ returned 0 false → b ≡ after p a (turns r f) → whole x b ≡ carried p r a (reader-1 (p .n) m r)
+  pub stays : {w l f : ℕ} {x : Returned} {b : List ℕ} → w ≡ m current → l ≡ m (last r) → index w ≡ l
+      → f ≡ 4 → x ≡ returned 0 false → b ≡ after p a (turns r f)
+      → whole x b ≡ carried p r a (reader-1 (p .n) m r)
   stays {w} {l} {f} e g h i =
       accepts p r a (reader-1 (p .n) m r) (turns r f) (rw (← e, ← g, i, eqb-equal (index w) l h))
 
-  pub leaves : {w l f : ℕ} {x : Returned} {b : List ℕ} → w ≡ m current → l ≡ m (last r) → index w ≢ l → f ≡ 2
-      → x ≡ returned 0 false → b ≡ after p a (turns r f) → whole x b ≡ carried p r a (reader-1 (p .n) m r)
+  pub leaves : {w l f : ℕ} {x : Returned} {b : List ℕ} → w ≡ m current → l ≡ m (last r) → index w ≢ l
+      → f ≡ 2 → x ≡ returned 0 false → b ≡ after p a (turns r f)
+      → whole x b ≡ carried p r a (reader-1 (p .n) m r)
   leaves {w} {l} {f} e g h i =
       accepts p r a (reader-1 (p .n) m r) (turns r f) (rw (← e, ← g, i, eqb-other (index w) l h))
 
   -- ---- step 2
 
-  pub all-gone : {s g : ℕ} {x : Returned} → s ≡ m (last r) → g ≡ m (r-end s) → p .n ≤ g → x ≡ returned 2 false
-      → whole x a ≡ carried p r a (reader-2 (p .n) m r)
+  pub all-gone : {s g : ℕ} {x : Returned} → s ≡ m (last r) → g ≡ m (r-end s) → p .n ≤ g
+      → x ≡ returned 2 false → whole x a ≡ carried p r a (reader-2 (p .n) m r)
   all-gone {g = g} e f h = refuses p r a (reader-2 (p .n) m r) 2 (rw (← e, ← f, ltb-beyond g (p .n) h))
 
   pub unbound : {s g : ℕ} {x : Returned} {b d : List ℕ} → s ≡ m (last r) → g ≡ m (r-end s) → g < p .n
@@ -104,9 +109,10 @@ module _ (p : Layout) (r : ℕ) (a : List ℕ) (m : Memory) where
       → whole x a ≡ carried p r a (reader-3 (p .n) m r)
   all-counted {w} e h = refuses p r a (reader-3 (p .n) m r) 2 (rw (← e, ltb-beyond (counter w) (p .n) h))
 
-  pub bound : {w : ℕ} {x : Returned} {b d g : List ℕ} → w ≡ m current → counter w < p .n → x ≡ returned 0 false
-      → b ≡ after p a (current ≔ (w + 1) ∷ []) → d ≡ after p b (last r ≔ index (w + 1) ∷ [])
-      → g ≡ after p d (turns r 4) → whole x g ≡ carried p r a (reader-3 (p .n) m r)
+  pub bound : {w : ℕ} {x : Returned} {b d g : List ℕ} → w ≡ m current → counter w < p .n
+      → x ≡ returned 0 false → b ≡ after p a (current ≔ (w + 1) ∷ [])
+      → d ≡ after p b (last r ≔ index (w + 1) ∷ []) → g ≡ after p d (turns r 4)
+      → whole x g ≡ carried p r a (reader-3 (p .n) m r)
   bound {w} e h i j k l =
       let stores = current ≔ (w + 1) ∷ last r ≔ index (w + 1) ∷ [] in
       accepts p r a (reader-3 (p .n) m r) (stores ++ turns r 4)
@@ -115,9 +121,10 @@ module _ (p : Layout) (r : ℕ) (a : List ℕ) (m : Memory) where
 
   -- ---- step 4: what is stored before the size is tested, and the two ways on
 
-  pub taken : {s k w : ℕ} {b d g : List ℕ} → s ≡ m (last r) → k ≡ m (size s) → w ≡ m (slot-write-number s)
-      → b ≡ after p a (len r ≔ k ∷ []) → d ≡ after p b (desk-write-number r ≔ w ∷ [])
-      → g ≡ after p d (pos r ≔ 0 ∷ []) → g ≡ after p a (takes m r)
+  pub taken : {s k w : ℕ} {b d g : List ℕ} → s ≡ m (last r) → k ≡ m (size s)
+      → w ≡ m (slot-write-number s) → b ≡ after p a (len r ≔ k ∷ [])
+      → d ≡ after p b (desk-write-number r ≔ w ∷ []) → g ≡ after p d (pos r ≔ 0 ∷ [])
+      → g ≡ after p a (takes m r)
   taken {k = k} {w = w} e f i j l o =
       let stores = len r ≔ k ∷ desk-write-number r ≔ w ∷ [] in
       rw (← e, ← f, ← i)
@@ -145,15 +152,18 @@ module _ (p : Layout) (r : ℕ) (a : List ℕ) (m : Memory) where
     copied = rw (← slot, ← at, ← word, ← add-one i)
         (then p a (read-record r i ≔ w ∷ []) (pos r ≔ (i + 1) ∷ []) first second)
 
-    pub copied-all : {x : Returned} {g : List ℕ} → i + 1 ≡ l → whole x g ≡ carried p r d (accept (finishes r) true)
+    pub copied-all : {x : Returned} {g : List ℕ} → i + 1 ≡ l
+        → whole x g ≡ carried p r d (accept (finishes r) true)
         → whole x g ≡ carried p r a (reader-5 (p .n) m r)
     copied-all h =
         goes-on p r a (reader-5 (p .n) m r) (copies m r) (finishes r)
         (rw (← at, ← words, ← add-one i, eqb-equal (i + 1) l h)) copied
 
-    pub copied-one : {x : Returned} → i + 1 ≢ l → x ≡ returned 0 false → whole x d ≡ carried p r a (reader-5 (p .n) m r)
+    pub copied-one : {x : Returned} → i + 1 ≢ l → x ≡ returned 0 false
+        → whole x d ≡ carried p r a (reader-5 (p .n) m r)
     copied-one h j =
-        accepts p r a (reader-5 (p .n) m r) (copies m r) (rw (← at, ← words, ← add-one i, eqb-other (i + 1) l h)) j
+        accepts p r a (reader-5 (p .n) m r) (copies m r)
+        (rw (← at, ← words, ← add-one i, eqb-other (i + 1) l h)) j
         copied
 
   -- ---- one step, by the phase

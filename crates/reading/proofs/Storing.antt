@@ -20,7 +20,8 @@ then p a k l e f = f ∙ ap (λ y. after p y l) e ∙ store-append (form1 (p .n)
 
 module _ (p : Layout) (r : ℕ) (a : List ℕ) (plan : Plan) where
   -- a plan that refuses changes no word
-  pub refuses : (k : ℕ) {x : Returned} → plan ≡ refuse k → x ≡ returned k false → whole x a ≡ carried p r a plan
+  pub refuses : (k : ℕ) {x : Returned} → plan ≡ refuse k → x ≡ returned k false
+      → whole x a ≡ carried p r a plan
   refuses k e f = rw e (Stored.refuses p r a f)
 
   -- a plan that ends nothing
@@ -29,7 +30,7 @@ module _ (p : Layout) (r : ℕ) (a : List ℕ) (plan : Plan) where
   accepts l e f g = rw e (Stored.accepts p r a l g f)
 
   -- a plan whose first stores are made, and whose others end an operation
-  pub goes-on : (k l : List Store) {x : Returned} {b d : List ℕ} → plan ≡ accept (k ++ l) true → b ≡ after p a k
-      → whole x d ≡ carried p r b (accept l true) → whole x d ≡ carried p r a plan
+  pub goes-on : (k l : List Store) {x : Returned} {b d : List ℕ} → plan ≡ accept (k ++ l) true
+      → b ≡ after p a k → whole x d ≡ carried p r b (accept l true) → whole x d ≡ carried p r a plan
   unfolding carried
   goes-on k l e f g = g ∙ rw (e, then p a k l f refl)

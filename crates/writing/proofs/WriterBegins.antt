@@ -20,9 +20,9 @@ use Rattle.answer.proofs.Stored.{stored, store-append, returned, refuses, accep
 
 -- ---- the desk's other words
 
-pub set-out : (p : Layout) (a : List ℕ) (v : Record) {b d e f : List ℕ} → b ≡ stored p a (writer-len ≔ length v)
-    → d ≡ stored p b (in-hand ≔ 0) → e ≡ stored p d (writer-pos ≔ 0) → f ≡ stored p e (writer-phase ≔ 1)
-    → f ≡ after p a (sets-out v)
+pub set-out : (p : Layout) (a : List ℕ) (v : Record) {b d e f : List ℕ}
+    → b ≡ stored p a (writer-len ≔ length v) → d ≡ stored p b (in-hand ≔ 0)
+    → e ≡ stored p d (writer-pos ≔ 0) → f ≡ stored p e (writer-phase ≔ 1) → f ≡ after p a (sets-out v)
 set-out p a v first second third fourth = rw (fourth, third, second, first)
 
 -- ---- the begin
@@ -37,15 +37,15 @@ module _ (p : Layout) (a : List ℕ) (v : Record) {x : Returned} where
   still-writing fits phase-is busy answer =
       rw (le-leb _ _ fits, eqb-other _ _ (λ idle. busy (phase-is ∙ idle))) (refuses p (p .n) a answer)
 
-  pub no-more-writes : {phase ended : ℕ} → length v ≤ p .c → phase ≡ memory-of p a writer-phase → phase ≡ 0
-      → ended ≡ memory-of p a writes-ended → most-writes ≤ ended → x ≡ returned 7 false
+  pub no-more-writes : {phase ended : ℕ} → length v ≤ p .c → phase ≡ memory-of p a writer-phase
+      → phase ≡ 0 → ended ≡ memory-of p a writes-ended → most-writes ≤ ended → x ≡ returned 7 false
       → whole x a ≡ carried p (p .n) a (write-plan (p .n) (memory-of p a) (p .c) v)
   no-more-writes fits phase-is idle ended-is full answer =
       rw (le-leb _ _ fits, eqb-equal _ _ (sym phase-is ∙ idle), ltb-beyond _ _ (rw ended-is at full))
       (refuses p (p .n) a answer)
 
-  pub begun : {phase ended : ℕ} {b d : List ℕ} → length v ≤ p .c → phase ≡ memory-of p a writer-phase → phase ≡ 0
-      → ended ≡ memory-of p a writes-ended → ended < most-writes
+  pub begun : {phase ended : ℕ} {b d : List ℕ} → length v ≤ p .c → phase ≡ memory-of p a writer-phase
+      → phase ≡ 0 → ended ≡ memory-of p a writes-ended → ended < most-writes
       → b ≡ after p a (copied write-record 0 v)
       → d ≡ after p b (sets-out v)
       → x ≡ returned 0 false → whole x d ≡ carried p (p .n) a (write-plan (p .n) (memory-of p a) (p .c) v)
