@@ -41,7 +41,8 @@ module _ (a : List ℕ) where
   unfolding test-number answered
   refuses x d = go (is-area a) refl (undamaged a) refl
     where
-      go : (b : Bool) → is-area a ≡ b → (u : Bool) → undamaged a ≡ u → answered a x ≡ refused (test-number a) a
+      go : (b : Bool) → is-area a ≡ b → (u : Bool) → undamaged a ≡ u
+          → answered a x ≡ refused (test-number a) a
       go false e u f = rw e
       go true e false f = rw (e, f)
       go true e true f = absurd (d (sym (sound-area e f)))

@@ -21,7 +21,8 @@ pub field-at : (t : Table) (g f r : ℕ)
 field-at t g f r = ap (word-at t g r) (sym (add-zero f))
 
 -- the word read at a place's address is what the memory holds there
-pub word-is : (t : Table) (a : List ℕ) {i : ℕ} (p : Place) → Has t p → i ≡ address t p → getD a i 0 ≡ view t a p
+pub word-is : (t : Table) (a : List ℕ) {i : ℕ} (p : Place) → Has t p → i ≡ address t p
+    → getD a i 0 ≡ view t a p
 word-is t a p h e = ap (λ j. getD a j 0) e ∙ sym (view-here t a p h)
 
 -- a word set at a place's address is a store to that place
@@ -53,7 +54,8 @@ module _ (n c : ℕ) (a : List ℕ) {i : ℕ} where
       → getD a i 0 ≡ view (form1 n c) a (read-record r j)
   read-record-is r j h k = word-is (form1 n c) a (read-record r j) (own-read-record n c r j h k .has)
 
-  pub writer-field-is : (f : ℕ) → f < 7 → i ≡ own-word n c f → getD a i 0 ≡ view (form1 n c) a (writer-field f)
+  pub writer-field-is : (f : ℕ) → f < 7 → i ≡ own-word n c f
+      → getD a i 0 ≡ view (form1 n c) a (writer-field f)
   writer-field-is f h e =
       word-is (form1 n c) a (writer-field f) (own-writer n c f h .has) (e ∙ field-at (form1 n c) 3 f 0)
 
@@ -67,21 +69,24 @@ pub current-set : (n c : ℕ) (a : List ℕ) (v : ℕ) → set a 7 v ≡ store (
 current-set n c a v = set-is (form1 n c) a current v refl
 
 module _ (n c : ℕ) (a : List ℕ) {i : ℕ} (v : ℕ) where
-  pub slot-field-set : (f s : ℕ) → i ≡ slot-word n c s f → set a i v ≡ store (form1 n c) a (slot-field f s ≔ v ∷ [])
+  pub slot-field-set : (f s : ℕ) → i ≡ slot-word n c s f
+      → set a i v ≡ store (form1 n c) a (slot-field f s ≔ v ∷ [])
   slot-field-set f s e = set-is (form1 n c) a (slot-field f s) v (e ∙ field-at (form1 n c) 1 f s)
 
   pub contents-set : (s j : ℕ) → i ≡ slot-word n c s (4 + j)
       → set a i v ≡ store (form1 n c) a (contents s j ≔ v ∷ [])
   contents-set s j = set-is (form1 n c) a (contents s j) v
 
-  pub desk-field-set : (f r : ℕ) → i ≡ desk-word n c r f → set a i v ≡ store (form1 n c) a (desk-field f r ≔ v ∷ [])
+  pub desk-field-set : (f r : ℕ) → i ≡ desk-word n c r f
+      → set a i v ≡ store (form1 n c) a (desk-field f r ≔ v ∷ [])
   desk-field-set f r e = set-is (form1 n c) a (desk-field f r) v (e ∙ field-at (form1 n c) 2 f r)
 
   pub read-record-set : (r j : ℕ) → i ≡ desk-word n c r (6 + j)
       → set a i v ≡ store (form1 n c) a (read-record r j ≔ v ∷ [])
   read-record-set r j = set-is (form1 n c) a (read-record r j) v
 
-  pub writer-field-set : (f : ℕ) → i ≡ own-word n c f → set a i v ≡ store (form1 n c) a (writer-field f ≔ v ∷ [])
+  pub writer-field-set : (f : ℕ) → i ≡ own-word n c f
+      → set a i v ≡ store (form1 n c) a (writer-field f ≔ v ∷ [])
   writer-field-set f e = set-is (form1 n c) a (writer-field f) v (e ∙ field-at (form1 n c) 3 f 0)
 
   pub write-record-set : (j : ℕ) → i ≡ own-word n c (7 + j)

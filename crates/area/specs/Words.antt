@@ -3,8 +3,8 @@ use mathlib.Core.Path.{_≡_}
 use mathlib.Core.List.{List}
 use Prim.Native.Nat.{ℕ, _+_, _*_, _≤_}
 use lib.ListN.{length}
-use Rattle.register.specs.Place.{Memory}
-use Rattle.register.specs.Table.{Table, base, width, total, view}
+use Rattle.register.specs.Place.{Memory, Store}
+use Rattle.register.specs.Table.{Table, base, width, total, view, store}
 use Rattle.register.specs.Area.{form1, slots-at, desks-at, writer-at}
 use Rattle.area.specs.declared.Layout.{Layout}
 
@@ -48,3 +48,7 @@ pub record Sized (p : Layout) (a : List ℕ) : Type 0 where
 -- the memory that words are by a layout
 abbrev pub memory-of : Layout → List ℕ → Memory
 memory-of p a = view (form1 (p .n) (p .c)) a
+
+-- the words after some stores, by a layout
+abbrev pub after : Layout → List ℕ → List Store → List ℕ
+after p a l = store (form1 (p .n) (p .c)) a l

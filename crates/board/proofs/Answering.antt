@@ -22,8 +22,8 @@ use Rattle.answer.specs.Carried.{whole, Ready, carried}
 use Rattle.answer.proofs.Stored.{returned}
 
 -- the test failed: its number is the answer, and no word is changed
-pub test-refuses : (a : List ℕ) (x : Move) {k : ℕ} {y : Returned} → k ≡ test-number a → k ≢ 0 → y ≡ returned k false
-    → whole y a ≡ answered a x
+pub test-refuses : (a : List ℕ) (x : Move) {k : ℕ} {y : Returned} → k ≡ test-number a → k ≢ 0
+    → y ≡ returned k false → whole y a ≡ answered a x
 test-refuses a x e d f =
     ap (λ z. whole z a) f ∙ ap (λ j. refused j a) e ∙ sym (refuses a x (λ z. d (e ∙ z)))
 
@@ -38,7 +38,8 @@ module _ (a : List ℕ) {k : ℕ} (e : k ≡ test-number a) (z : k ≡ 0) where
     ready = record { sized = sized a p f (passes .0); sound = rw f (whole-area a (passes .1)) }
 
     -- the call is its plan carried out
-    pub carries-out : (x : Move) → carried p (mover (p .n) x) a (plan (p .n) (p .c) (memory-of p a) x) ≡ answered a x
+    pub carries-out : (x : Move)
+        → carried p (mover (p .n) x) a (plan (p .n) (p .c) (memory-of p a) x) ≡ answered a x
     unfolding carried carried-out answered
     carries-out x =
         ap (λ q. carried q (mover (q .n) x) a (plan (q .n) (q .c) (memory-of q a) x)) f

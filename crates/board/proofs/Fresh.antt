@@ -13,41 +13,42 @@ use Rattle.register.specs.Area.{form1, known-form, in-range, size, contents}
 use Rattle.register.specs.Calls.{fresh, made}
 use Rattle.register.proofs.Tests.{both, true-passes}
 use Rattle.register.proofs.Called.{range-facts}
-use Rattle.area.specs.Words.{layout-of, Laid, Sized}
+use Rattle.area.specs.Words.{layout-of, Laid, Sized, after}
 use Rattle.area.specs.declared.Layout.{Layout}
 use Rattle.area.proofs.Asked.{was-no, was-yes}
 use Rattle.area.proofs.Sizes.{total-is, laid-of}
 use Rattle.answer.specs.Carried.{whole}
-use Rattle.board.specs.Making.{stored, numbers, offsets, starting}
 use Rattle.answer.specs.declared.Answer.{Answer}
-use Rattle.board.proofs.Copying.{Copying, copying-done}
+use Rattle.answer.proofs.Copying.{Copying, copying-done}
+use Rattle.board.specs.Making.{numbers, offsets, starting}
 
 -- ---- the words
 
 module _ {p : Layout} (l : Laid p) (a : List ℕ) where
   -- words 0 to 3, with the layout's total
   pub numbers-set : set (set (set (set a 0 1) 1 (p .n)) 2 (p .c)) 3 (p .total)
-      ≡ stored p a (numbers (p .n) (p .c))
+      ≡ after p a (numbers (p .n) (p .c))
   numbers-set = ap (set (set (set (set a 0 1) 1 (p .n)) 2 (p .c)) 3) (total-is l)
 
   -- words 4 to 7, with the layout's offsets
   pub offsets-set : set (set (set (set a 4 (p .slots)) 5 (p .desks)) 6 (p .writer)) 7 (p .n)
-      ≡ stored p a (offsets (p .n) (p .c))
+      ≡ after p a (offsets (p .n) (p .c))
   offsets-set = ap (λ q. set (set (set (set a 4 (q .slots)) 5 (q .desks)) 6 (q .writer)) 7 (p .n)) (l .exact)
 
 -- the size, and then the record's words
-pub starting-set : {p : Layout} (a : List ℕ) {v : Record} {b d : List ℕ} {i : ℕ} → Copying p (contents 0) v b d i
-    → b ≡ stored p a (size 0 ≔ length v ∷ []) → length v ≤ i → d ≡ stored p a (starting v)
-starting-set {p} a {v} x e h = copying-done x h ∙ ap (λ s. stored p s (copied (contents 0) 0 v)) e
+pub starting-set : {p : Layout} (a : List ℕ) {v : Record} {b d : List ℕ} {i : ℕ}
+    → Copying p (contents 0) v b d i → b ≡ after p a (size 0 ≔ length v ∷ []) → length v ≤ i
+    → d ≡ after p a (starting v)
+starting-set {p} a {v} x e h = copying-done x h ∙ ap (λ s. after p s (copied (contents 0) 0 v)) e
 
 -- all words 0, and then the three lots of stores
 pub filled : {p : Layout} {a b d e f : List ℕ} (v : Record) → Sized p a → b ≡ replicate (length a) 0
-    → d ≡ stored p b (numbers (p .n) (p .c)) → e ≡ stored p d (offsets (p .n) (p .c)) → f ≡ stored p e (starting v)
-    → f ≡ fresh (p .n) (p .c) v
+    → d ≡ after p b (numbers (p .n) (p .c)) → e ≡ after p d (offsets (p .n) (p .c))
+    → f ≡ after p e (starting v) → f ≡ fresh (p .n) (p .c) v
 filled {p} v s w x y z =
     z
-    ∙ ap (λ q. stored p q (starting v)) (y ∙ ap (λ q. stored p q (offsets (p .n) (p .c)))
-    (x ∙ ap (λ q. stored p q (numbers (p .n) (p .c))) (w ∙ ap (λ k. replicate k 0) (s .exact))))
+    ∙ ap (λ q. after p q (starting v)) (y ∙ ap (λ q. after p q (offsets (p .n) (p .c)))
+    (x ∙ ap (λ q. after p q (numbers (p .n) (p .c))) (w ∙ ap (λ k. replicate k 0) (s .exact))))
 
 -- ---- the answers
 
@@ -60,8 +61,8 @@ tested : (form n c : ℕ) {r : Bool} → r ≡ in-range n c → known-form form 
 tested form n c e = ap (λ b. known-form form && b) e
 
 -- an unknown form, or N or C out of range: 9
-pub made-unknown : (form n c : ℕ) (v : Record) (a : List ℕ) {x : Answer} {r : Bool} → x ≡ answer 9 → r ≡ in-range n c
-    → not (known-form form && r) ≡ true → whole x a ≡ made form n c v a
+pub made-unknown : (form n c : ℕ) (v : Record) (a : List ℕ) {x : Answer} {r : Bool} → x ≡ answer 9
+    → r ≡ in-range n c → not (known-form form && r) ≡ true → whole x a ≡ made form n c v a
 unfolding made
 made-unknown form n c v a e k h = rw (e, was-no (tested form n c k) h)
 
@@ -72,7 +73,8 @@ pub record Taken (form n c : ℕ) : Type 0 where
   pub few-words : c ≤ 256
 
 -- the code's test passes where making takes them
-pub taken-of : (form n c : ℕ) {r : Bool} → r ≡ in-range n c → not (known-form form && r) ≡ false → Taken form n c
+pub taken-of : (form n c : ℕ) {r : Bool} → r ≡ in-range n c → not (known-form form && r) ≡ false
+    → Taken form n c
 taken-of form n c e h =
     let k = was-yes (tested form n c e) h in
     let range = range-facts n c (both (known-form form) (in-range n c) (true-passes _ k) .1) in
@@ -110,7 +112,7 @@ module _ {form n c : ℕ} (t : Taken form n c) {p : Layout} (l : p ≡ layout-of
         (ap (λ d. whole (answer 0) d) (f ∙ ap (λ q. fresh (q .n) (q .c) v) l))
 
 -- the words that are filled
-pub made-sized : {form n c : ℕ} {p : Layout} {a : List ℕ} → Taken form n c → p ≡ layout-of n c → length a ≡ p .total
-    → Sized p a
+pub made-sized : {form n c : ℕ} {p : Layout} {a : List ℕ} → Taken form n c → p ≡ layout-of n c
+    → length a ≡ p .total → Sized p a
 made-sized t l s =
     let here = laid-of (t .few-readers) (t .few-words) l in record { laid = here; exact = s ∙ total-is here }

@@ -7,7 +7,8 @@ use Rattle.answer.specs.declared.Answer.{Answer as Returned}
 use Rattle.answer.specs.Carried.{whole}
 
 -- every contract of a call that may change the area is one equation `whole x b ≡ d`, where d is register's answer
-pub unique : (d : Answer) (x y : Returned) (a b : List ℕ) → whole x a ≡ d → whole y b ≡ d → (x ≡ y) × (a ≡ b)
+pub unique : (d : Answer) (x y : Returned) (a b : List ℕ) → whole x a ≡ d → whole y b ≡ d
+    → (x ≡ y) × (a ≡ b)
 unique d x y a b e f =
     (λ i. record { number = same i .number; ended = same i .ended; age = same i .age }, ap (λ z. z .area) same)
   where

@@ -3,13 +3,8 @@ use mathlib.Core.List.{List, [], _∷_}
 use Prim.Native.Nat.{ℕ}
 use lib.ListN.{length}
 use Rattle.register.specs.Place.{Record, Store, _≔_, copied}
-use Rattle.register.specs.Table.{total, store}
+use Rattle.register.specs.Table.{total}
 use Rattle.register.specs.Area.{form1, slots-at, desks-at, writer-at, header, current, size, contents}
-use Rattle.area.specs.declared.Layout.{Layout}
-
--- words that a layout fits, after some stores
-abbrev pub stored : Layout → List ℕ → List Store → List ℕ
-stored p a l = store (form1 (p .n) (p .c)) a l
 
 -- words 0 to 3: the form, N, C and the total
 abbrev pub numbers : ℕ → ℕ → List Store

@@ -52,7 +52,8 @@ module _ (b : List ℕ) (s : State) where
       go (yes e) = rw (eqb-equal _ _ e) (yes-so e)
       go (no d) = rw (eqb-other _ _ d) (no-call (s .area) (x .area) (not-so d))
 
-  one : (y : Asked) → One (s .area) (answer-of b s y .area) (cond (eqb (answer-of b s y .number) 0) (call-of b s y) [])
+  one : (y : Asked)
+      → One (s .area) (answer-of b s y .area) (cond (eqb (answer-of b s y .number) 0) (call-of b s y) [])
   one nothing = no-call (s .area) (s .area) refl
   one (values-for k) =
       let x : Move = write (words-at k b (values-at b + 8 * s .used)) in
@@ -69,7 +70,8 @@ module _ (b : List ℕ) (s : State) where
 -- ---- the whole run
 
 -- one list of calls behind another
-joined : (a a′ : List ℕ) (l k : List Move) → Accepted a l → after a l ≡ a′ → Accepted a′ k → Accepted a (l ++ k)
+joined : (a a′ : List ℕ) (l k : List Move) → Accepted a l → after a l ≡ a′ → Accepted a′ k
+    → Accepted a (l ++ k)
 joined a a′ [] k none e h = subst (λ y. Accepted y k) (sym e) h
 joined a a′ (x ∷ l) k (then z rest) e h = then z (joined (answered a x .area) a′ l k rest e h)
 

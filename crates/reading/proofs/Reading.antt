@@ -1,7 +1,7 @@
 -- The calls of a reader by each way through their code, over what the code reads and stores. Assumes nothing.
 use mathlib.Core.Path.{_≡_, refl, sym, ap, ap₂, _∙_}
 use mathlib.Core.Logic.{_≢_}
-use mathlib.Core.Bool.{true, cond}
+use mathlib.Core.Bool.{true, false, cond}
 use mathlib.Core.List.{List, [], _∷_, _++_}
 use Prim.Native.Nat.{ℕ, _+_, _≤_, _<_}
 use native.Mathlib.Numerals.{add-one}
@@ -18,17 +18,18 @@ use Rattle.register.specs.Demands.{none, also}
 use Rattle.register.proofs.Tests.{eqb-equal, eqb-other, ltb-below, ltb-beyond}
 use Rattle.register.proofs.Tables.{view-store}
 use Rattle.register.proofs.Form1.{own-desk}
-use Rattle.area.specs.Words.{Sized}
+use Rattle.area.specs.Words.{Sized, memory-of, after}
 use Rattle.area.specs.declared.Layout.{Layout}
 use Rattle.answer.specs.declared.Answer.{Answer as Returned}
 use Rattle.answer.specs.Carried.{whole, Ready, carried}
-use Rattle.area.specs.Words.{memory-of}
-use Rattle.reading.proofs.Storing.{after, then, not-ended, refuses, accepts, goes-on}
+use Rattle.answer.proofs.Stored.{returned}
+use Rattle.reading.proofs.Storing.{then, refuses, accepts, goes-on}
 
 -- ---- what an undamaged area says of a reader's desk
 
 -- the slot that the reader is bound to
-pub bound-slot : {p : Layout} {a : List ℕ} {r s : ℕ} → Ready p a → r < p .n → s ≡ memory-of p a (last r) → s < p .n + 2
+pub bound-slot : {p : Layout} {a : List ℕ} {r s : ℕ} → Ready p a → r < p .n → s ≡ memory-of p a (last r)
+    → s < p .n + 2
 bound-slot {r = r} v h e = rw e (v .sound .desk r h .slot)
 
 -- the word that the reader copies
@@ -61,38 +62,42 @@ ended p r a s h e f g =
 module _ (p : Layout) (r : ℕ) (a : List ℕ) (m : Memory) where
   -- ---- a begin
 
-  pub no-reader : {x : Returned} → p .n ≤ r → x ≡ not-ended 3 → whole x a ≡ carried p r a (read-plan (p .n) m r)
+  pub no-reader : {x : Returned} → p .n ≤ r → x ≡ returned 3 false
+      → whole x a ≡ carried p r a (read-plan (p .n) m r)
   no-reader h = refuses p r a (read-plan (p .n) m r) 3 (rw (ltb-beyond r (p .n) h))
 
-  pub busy : {f : ℕ} {x : Returned} → r < p .n → f ≡ m (phase r) → f ≢ 0 → x ≡ not-ended 5
+  pub busy : {f : ℕ} {x : Returned} → r < p .n → f ≡ m (phase r) → f ≢ 0 → x ≡ returned 5 false
       → whole x a ≡ carried p r a (read-plan (p .n) m r)
   busy {f} h e d = refuses p r a (read-plan (p .n) m r) 5 (rw (ltb-below r (p .n) h, ← e, eqb-other f 0 d))
 
-  pub begun : {f : ℕ} {x : Returned} {b : List ℕ} → r < p .n → f ≡ m (phase r) → f ≡ 0 → x ≡ not-ended 0
-      → b ≡ after p a (turns r 1) → whole x b ≡ carried p r a (read-plan (p .n) m r)
+  pub begun : {f : ℕ} {x : Returned} {b : List ℕ} → r < p .n → f ≡ m (phase r) → f ≡ 0
+      → x ≡ returned 0 false → b ≡ after p a (turns r 1)
+      → whole x b ≡ carried p r a (read-plan (p .n) m r)
   begun {f} h e d =
       accepts p r a (read-plan (p .n) m r) (turns r 1) (rw (ltb-below r (p .n) h, ← e, eqb-equal f 0 d))
 
   -- ---- step 1
 
-  pub stays : {w l f : ℕ} {x : Returned} {b : List ℕ} → w ≡ m current → l ≡ m (last r) → index w ≡ l → f ≡ 4
-      → x ≡ not-ended 0 → b ≡ after p a (turns r f) → whole x b ≡ carried p r a (reader-1 (p .n) m r)
+  pub stays : {w l f : ℕ} {x : Returned} {b : List ℕ} → w ≡ m current → l ≡ m (last r) → index w ≡ l
+      → f ≡ 4 → x ≡ returned 0 false → b ≡ after p a (turns r f)
+      → whole x b ≡ carried p r a (reader-1 (p .n) m r)
   stays {w} {l} {f} e g h i =
       accepts p r a (reader-1 (p .n) m r) (turns r f) (rw (← e, ← g, i, eqb-equal (index w) l h))
 
-  pub leaves : {w l f : ℕ} {x : Returned} {b : List ℕ} → w ≡ m current → l ≡ m (last r) → index w ≢ l → f ≡ 2
-      → x ≡ not-ended 0 → b ≡ after p a (turns r f) → whole x b ≡ carried p r a (reader-1 (p .n) m r)
+  pub leaves : {w l f : ℕ} {x : Returned} {b : List ℕ} → w ≡ m current → l ≡ m (last r) → index w ≢ l
+      → f ≡ 2 → x ≡ returned 0 false → b ≡ after p a (turns r f)
+      → whole x b ≡ carried p r a (reader-1 (p .n) m r)
   leaves {w} {l} {f} e g h i =
       accepts p r a (reader-1 (p .n) m r) (turns r f) (rw (← e, ← g, i, eqb-other (index w) l h))
 
   -- ---- step 2
 
-  pub all-gone : {s g : ℕ} {x : Returned} → s ≡ m (last r) → g ≡ m (r-end s) → p .n ≤ g → x ≡ not-ended 2
-      → whole x a ≡ carried p r a (reader-2 (p .n) m r)
+  pub all-gone : {s g : ℕ} {x : Returned} → s ≡ m (last r) → g ≡ m (r-end s) → p .n ≤ g
+      → x ≡ returned 2 false → whole x a ≡ carried p r a (reader-2 (p .n) m r)
   all-gone {g = g} e f h = refuses p r a (reader-2 (p .n) m r) 2 (rw (← e, ← f, ltb-beyond g (p .n) h))
 
   pub unbound : {s g : ℕ} {x : Returned} {b d : List ℕ} → s ≡ m (last r) → g ≡ m (r-end s) → g < p .n
-      → x ≡ not-ended 0 → b ≡ after p a (r-end s ≔ (g + 1) ∷ []) → d ≡ after p b (turns r 3)
+      → x ≡ returned 0 false → b ≡ after p a (r-end s ≔ (g + 1) ∷ []) → d ≡ after p b (turns r 3)
       → whole x d ≡ carried p r a (reader-2 (p .n) m r)
   unbound {s} {g} e f h i j k =
       accepts p r a (reader-2 (p .n) m r) (r-end s ≔ (g + 1) ∷ turns r 3)
@@ -100,13 +105,14 @@ module _ (p : Layout) (r : ℕ) (a : List ℕ) (m : Memory) where
 
   -- ---- step 3
 
-  pub all-counted : {w : ℕ} {x : Returned} → w ≡ m current → p .n ≤ counter w → x ≡ not-ended 2
+  pub all-counted : {w : ℕ} {x : Returned} → w ≡ m current → p .n ≤ counter w → x ≡ returned 2 false
       → whole x a ≡ carried p r a (reader-3 (p .n) m r)
   all-counted {w} e h = refuses p r a (reader-3 (p .n) m r) 2 (rw (← e, ltb-beyond (counter w) (p .n) h))
 
-  pub bound : {w : ℕ} {x : Returned} {b d g : List ℕ} → w ≡ m current → counter w < p .n → x ≡ not-ended 0
-      → b ≡ after p a (current ≔ (w + 1) ∷ []) → d ≡ after p b (last r ≔ index (w + 1) ∷ [])
-      → g ≡ after p d (turns r 4) → whole x g ≡ carried p r a (reader-3 (p .n) m r)
+  pub bound : {w : ℕ} {x : Returned} {b d g : List ℕ} → w ≡ m current → counter w < p .n
+      → x ≡ returned 0 false → b ≡ after p a (current ≔ (w + 1) ∷ [])
+      → d ≡ after p b (last r ≔ index (w + 1) ∷ []) → g ≡ after p d (turns r 4)
+      → whole x g ≡ carried p r a (reader-3 (p .n) m r)
   bound {w} e h i j k l =
       let stores = current ≔ (w + 1) ∷ last r ≔ index (w + 1) ∷ [] in
       accepts p r a (reader-3 (p .n) m r) (stores ++ turns r 4)
@@ -115,9 +121,10 @@ module _ (p : Layout) (r : ℕ) (a : List ℕ) (m : Memory) where
 
   -- ---- step 4: what is stored before the size is tested, and the two ways on
 
-  pub taken : {s k w : ℕ} {b d g : List ℕ} → s ≡ m (last r) → k ≡ m (size s) → w ≡ m (slot-write-number s)
-      → b ≡ after p a (len r ≔ k ∷ []) → d ≡ after p b (desk-write-number r ≔ w ∷ [])
-      → g ≡ after p d (pos r ≔ 0 ∷ []) → g ≡ after p a (takes m r)
+  pub taken : {s k w : ℕ} {b d g : List ℕ} → s ≡ m (last r) → k ≡ m (size s)
+      → w ≡ m (slot-write-number s) → b ≡ after p a (len r ≔ k ∷ [])
+      → d ≡ after p b (desk-write-number r ≔ w ∷ []) → g ≡ after p d (pos r ≔ 0 ∷ [])
+      → g ≡ after p a (takes m r)
   taken {k = k} {w = w} e f i j l o =
       let stores = len r ≔ k ∷ desk-write-number r ≔ w ∷ [] in
       rw (← e, ← f, ← i)
@@ -130,7 +137,7 @@ module _ (p : Layout) (r : ℕ) (a : List ℕ) (m : Memory) where
       goes-on p r a (reader-4 (p .n) m r) (takes m r) (finishes r) (rw (← e, ← f, eqb-equal k 0 h))
 
   pub took-some : {s k : ℕ} {x : Returned} {b d : List ℕ} → s ≡ m (last r) → k ≡ m (size s) → k ≢ 0
-      → b ≡ after p a (takes m r) → x ≡ not-ended 0 → d ≡ after p b (turns r 5)
+      → b ≡ after p a (takes m r) → x ≡ returned 0 false → d ≡ after p b (turns r 5)
       → whole x d ≡ carried p r a (reader-4 (p .n) m r)
   took-some {k = k} e f h i j l =
       accepts p r a (reader-4 (p .n) m r) (takes m r ++ turns r 5) (rw (← e, ← f, eqb-other k 0 h)) j
@@ -145,15 +152,18 @@ module _ (p : Layout) (r : ℕ) (a : List ℕ) (m : Memory) where
     copied = rw (← slot, ← at, ← word, ← add-one i)
         (then p a (read-record r i ≔ w ∷ []) (pos r ≔ (i + 1) ∷ []) first second)
 
-    pub copied-all : {x : Returned} {g : List ℕ} → i + 1 ≡ l → whole x g ≡ carried p r d (accept (finishes r) true)
+    pub copied-all : {x : Returned} {g : List ℕ} → i + 1 ≡ l
+        → whole x g ≡ carried p r d (accept (finishes r) true)
         → whole x g ≡ carried p r a (reader-5 (p .n) m r)
     copied-all h =
         goes-on p r a (reader-5 (p .n) m r) (copies m r) (finishes r)
         (rw (← at, ← words, ← add-one i, eqb-equal (i + 1) l h)) copied
 
-    pub copied-one : {x : Returned} → i + 1 ≢ l → x ≡ not-ended 0 → whole x d ≡ carried p r a (reader-5 (p .n) m r)
+    pub copied-one : {x : Returned} → i + 1 ≢ l → x ≡ returned 0 false
+        → whole x d ≡ carried p r a (reader-5 (p .n) m r)
     copied-one h j =
-        accepts p r a (reader-5 (p .n) m r) (copies m r) (rw (← at, ← words, ← add-one i, eqb-other (i + 1) l h)) j
+        accepts p r a (reader-5 (p .n) m r) (copies m r)
+        (rw (← at, ← words, ← add-one i, eqb-other (i + 1) l h)) j
         copied
 
   -- ---- one step, by the phase
@@ -173,12 +183,12 @@ module _ (p : Layout) (r : ℕ) (a : List ℕ) (m : Memory) where
   unfolding reader-step
   in-phase e h g = rw (← e, h) g
 
-  pub idle : {f : ℕ} {x : Returned} → f ≡ m (phase r) → f ≡ 0 → x ≡ not-ended 6
+  pub idle : {f : ℕ} {x : Returned} → f ≡ m (phase r) → f ≡ 0 → x ≡ returned 6 false
       → whole x a ≡ carried p r a (reader-step (p .n) m r)
   idle e h g = in-phase e h (refuses p r a (refuse 6) 6 refl g)
 
   -- a phase that no undamaged area has
-  pub past-phases : {f : ℕ} {x : Returned} → f ≡ m (phase r) → 6 ≤ f → x ≡ not-ended 2
+  pub past-phases : {f : ℕ} {x : Returned} → f ≡ m (phase r) → 6 ≤ f → x ≡ returned 2 false
       → whole x a ≡ carried p r a (reader-step (p .n) m r)
   unfolding reader-step
   past-phases e h = refuses p r a (reader-step (p .n) m r) 2 (rw (← e) (List·getD-eq-default plans (refuse 2) h))

@@ -11,9 +11,8 @@ ghost use Rattle.register.specs.Area.{phase};
 ghost use Rattle.register.specs.Steps.{accept, finishes, read-plan, reader-step};
 ghost use Rattle.register.specs.Steps.{reader-1, reader-2, reader-3, reader-4, reader-5};
 ghost use Rattle.register.specs.Calls.{age-of};
-ghost use Rattle.area.specs.Words.{Sized};
+ghost use Rattle.area.specs.Words.{Sized, memory-of};
 ghost use Rattle.answer.specs.Carried.{whole, Ready, carried};
-ghost use Rattle.area.specs.Words.{memory-of};
 
 // A begin of a read: phase 1 and nothing else.
 pub fn read_begins(area: &mut [u64], p: Layout, r: usize) -> Answer
@@ -55,7 +54,7 @@ pub fn reader_step(area: &mut [u64], p: Layout, r: usize) -> Answer
 }
 
 // Step 1 (R1): look at current's index.
-pub fn looks(area: &mut [u64], p: Layout, r: usize) -> Answer
+fn looks(area: &mut [u64], p: Layout, r: usize) -> Answer
     requires { ⌜ Ready p (now area) × (r < p .n) ⌝ }
     ensures { λ x. ⌜
         whole x (now (area .exit))
@@ -74,7 +73,7 @@ pub fn looks(area: &mut [u64], p: Layout, r: usize) -> Answer
 }
 
 // Step 2 (R3): add 1 to r_end of slot last.
-pub fn unbinds(area: &mut [u64], p: Layout, r: usize) -> Answer
+fn unbinds(area: &mut [u64], p: Layout, r: usize) -> Answer
     requires { ⌜ Ready p (now area) × (r < p .n) ⌝ }
     ensures { λ x. ⌜
         whole x (now (area .exit))
@@ -92,7 +91,7 @@ pub fn unbinds(area: &mut [u64], p: Layout, r: usize) -> Answer
 }
 
 // Step 3 (R4, R5): add 1 to current; last becomes its index.
-pub fn binds(area: &mut [u64], p: Layout, r: usize) -> Answer
+fn binds(area: &mut [u64], p: Layout, r: usize) -> Answer
     requires { ⌜ Ready p (now area) × (r < p .n) ⌝ }
     ensures { λ x. ⌜
         whole x (now (area .exit))
@@ -111,7 +110,7 @@ pub fn binds(area: &mut [u64], p: Layout, r: usize) -> Answer
 }
 
 // Step 4: take size and write number of slot last. A record of no words ends the read.
-pub fn takes(area: &mut [u64], p: Layout, r: usize) -> Answer
+fn takes(area: &mut [u64], p: Layout, r: usize) -> Answer
     requires { ⌜ Ready p (now area) × (r < p .n) ⌝ }
     ensures { λ x. ⌜
         whole x (now (area .exit))
@@ -132,7 +131,7 @@ pub fn takes(area: &mut [u64], p: Layout, r: usize) -> Answer
 }
 
 // Step 5: copy the word at pos from slot last. The last word ends the read.
-pub fn copies(area: &mut [u64], p: Layout, r: usize) -> Answer
+fn copies(area: &mut [u64], p: Layout, r: usize) -> Answer
     requires { ⌜ Ready p (now area) × (r < p .n) × (memory-of p (now area) (phase r) ≡ 5) ⌝ }
     ensures { λ x. ⌜
         whole x (now (area .exit))

@@ -16,19 +16,22 @@ use Rattle.register.proofs.Sums.{sum, spare}
 -- what the writer is at; `away` is the one slot beside the current one whose r_start need not be its count
 pub data Stage (n here : ℕ) (gone bound : ℕ → ℕ) (phase last hand old frozen away : ℕ) : Type 0 where
   idle : phase ≡ 0 → last ≡ here → away ≡ here → Stage n here gone bound phase last hand old frozen away
-  scanning : phase ≡ 1 → last ≡ here → away ≡ here → (s : ℕ) → hand ≤ s → s < n + 2 → s ≢ here → bound s ≡ 0
+  scanning : phase ≡ 1 → last ≡ here → away ≡ here → (s : ℕ) → hand ≤ s → s < n + 2 → s ≢ here
+      → bound s ≡ 0 → Stage n here gone bound phase last hand old frozen away
+  filling : 2 ≤ phase → phase ≤ 6 → last ≡ here → away ≡ hand → hand < n + 2 → hand ≢ here
+      → bound hand ≡ 0 → (6 ≤ phase → gone hand ≡ 0)
       → Stage n here gone bound phase last hand old frozen away
-  filling : 2 ≤ phase → phase ≤ 6 → last ≡ here → away ≡ hand → hand < n + 2 → hand ≢ here → bound hand ≡ 0
-      → (6 ≤ phase → gone hand ≡ 0) → Stage n here gone bound phase last hand old frozen away
-  told : phase ≡ 7 → hand ≡ here → away ≡ old → old < n + 2 → old ≢ here → frozen ≡ gone old + bound old
-      → Stage n here gone bound phase last hand old frozen away
+  told : phase ≡ 7 → hand ≡ here → away ≡ old → old < n + 2 → old ≢ here
+      → frozen ≡ gone old + bound old → Stage n here gone bound phase last hand old frozen away
 
 -- every slot's r_start is its r_end and its bound readers, but for the slot away and the current one, whose counter
 -- it is
 abbrev pub Settled : ℕ → ℕ → (ℕ → ℕ) → (ℕ → ℕ) → (ℕ → ℕ) → ℕ → Type 0
-Settled n here started gone bound away = (s : ℕ) → s < n + 2 → s ≢ here → s ≢ away → started s ≡ gone s + bound s
+Settled n here started gone bound away =
+    (s : ℕ) → s < n + 2 → s ≢ here → s ≢ away → started s ≡ gone s + bound s
 
-pub record Balance (n here counted : ℕ) (started gone bound : ℕ → ℕ) (phase last hand old frozen : ℕ) : Type 0 where
+pub record Balance (n here counted : ℕ) (started gone bound : ℕ → ℕ)
+    (phase last hand old frozen : ℕ) : Type 0 where
   pub away : ℕ
   pub slot : here < n + 2
   pub stage : Stage n here gone bound phase last hand old frozen away
@@ -70,7 +73,8 @@ module _ {n here counted : ℕ} {started gone bound : ℕ → ℕ} {phase last h
       on (told p q a h g e) = told p q a h g (e ∙ sym (all old))
 
   -- reader step 3: one reader more is bound to the current slot and counted there
-  pub one-joins : (bound′ : ℕ → ℕ) → ((s : ℕ) → s ≢ here → bound′ s ≡ bound s) → bound′ here ≡ suc (bound here)
+  pub one-joins : (bound′ : ℕ → ℕ) → ((s : ℕ) → s ≢ here → bound′ s ≡ bound s)
+      → bound′ here ≡ suc (bound here)
       → Balance n here (suc counted) started gone bound′ phase last hand old frozen
   one-joins bound′ other more =
       record {
@@ -89,7 +93,8 @@ module _ {n here counted : ℕ} {started gone bound : ℕ → ℕ} {phase last h
       on (told p q a h g e) = told p q a h g (e ∙ ap (λ x. gone old + x) (sym (other old g)))
 
   -- the writer begins: some slot is free, for n readers cannot hold n + 1 slots
-  pub write-begins : phase ≡ 0 → sum (n + 2) bound ≤ n → Balance n here counted started gone bound 1 last 0 old frozen
+  pub write-begins : phase ≡ 0 → sum (n + 2) bound ≤ n
+      → Balance n here counted started gone bound 1 last 0 old frozen
   write-begins e few =
       record { away = b .away; slot = b .slot; stage = on (b .stage); now = b .now; settled = b .settled }
     where
@@ -101,8 +106,8 @@ module _ {n here counted : ℕ} {started gone bound : ℕ → ℕ} {phase last h
       on (told p q a h g x) = absurd (omega arith)
 
   -- writer step 1: the slot in hand is free, and has no reader
-  pub hand-free : (phase′ : ℕ) → 2 ≤ phase′ → phase′ ≤ 5 → phase ≡ 1 → hand ≢ last → started hand ≡ gone hand
-      → Balance n here counted started gone bound phase′ last hand old frozen
+  pub hand-free : (phase′ : ℕ) → 2 ≤ phase′ → phase′ ≤ 5 → phase ≡ 1 → hand ≢ last
+      → started hand ≡ gone hand → Balance n here counted started gone bound phase′ last hand old frozen
   hand-free phase′ lo hi e d free = go (b .away) (b .stage) (b .settled)
     where
       go : (away : ℕ) → Stage n here gone bound phase last hand old frozen away
@@ -147,11 +152,13 @@ module _ {n here counted : ℕ} {started gone bound : ℕ → ℕ} {phase last h
       go away (told p q a h g x) settled = absurd (omega arith)
 
   -- writer steps 2 to 5: the slot in hand is filled, and its counts cleared
-  pub hand-filled : (started′ gone′ : ℕ → ℕ) (phase′ : ℕ) → 2 ≤ phase → phase ≤ 5 → 2 ≤ phase′ → phase′ ≤ 6
-      → (6 ≤ phase′ → gone′ hand ≡ 0) → ((s : ℕ) → s ≢ hand → started′ s ≡ started s)
+  pub hand-filled : (started′ gone′ : ℕ → ℕ) (phase′ : ℕ) → 2 ≤ phase → phase ≤ 5
+      → 2 ≤ phase′ → phase′ ≤ 6 → (6 ≤ phase′ → gone′ hand ≡ 0)
+      → ((s : ℕ) → s ≢ hand → started′ s ≡ started s)
       → ((s : ℕ) → s ≢ hand → gone′ s ≡ gone s)
       → Balance n here counted started′ gone′ bound phase′ last hand old frozen
-  hand-filled started′ gone′ phase′ lo hi lo′ hi′ clear same-started same-gone = go (b .away) (b .stage) (b .settled)
+  hand-filled started′ gone′ phase′ lo hi lo′ hi′ clear same-started same-gone =
+      go (b .away) (b .stage) (b .settled)
     where
       go : (away : ℕ) → Stage n here gone bound phase last hand old frozen away
           → Settled n here started gone bound away
@@ -190,8 +197,8 @@ module _ {n here counted : ℕ} {started gone bound : ℕ → ℕ} {phase last h
       go away (told p q a h g x) settled = absurd (omega arith)
 
   -- writer step 7: the old slot's r_start becomes the old word's counter
-  pub old-frozen : (started′ : ℕ → ℕ) → phase ≡ 7 → ((s : ℕ) → s ≢ old → started′ s ≡ started s)
-      → started′ old ≡ frozen
+  pub old-frozen : (started′ : ℕ → ℕ) → phase ≡ 7
+      → ((s : ℕ) → s ≢ old → started′ s ≡ started s) → started′ old ≡ frozen
       → Balance n here counted started′ gone bound 0 hand hand old frozen
   old-frozen started′ e same new = go (b .away) (b .stage) (b .settled)
     where

@@ -58,8 +58,8 @@ area-facts a e = go (each-passes (area-tests a) (true-passes _ e))
         record { range = range-facts (readers a) (capacity a) r; exact = eqb→eq _ _ l }
 
 -- an area with the same head and length is one too
-pub same-area : (a b : List ℕ) → length b ≡ length a → ((i : ℕ) → i < 7 → getD b i 0 ≡ getD a i 0) → is-area b
-    ≡ is-area a
+pub same-area : (a b : List ℕ) → length b ≡ length a → ((i : ℕ) → i < 7 → getD b i 0 ≡ getD a i 0)
+    → is-area b ≡ is-area a
 unfolding is-area
 same-area a b l head =
     rw (
@@ -111,7 +111,8 @@ pub whole-area : (a : List ℕ) → undamaged a ≡ true → Whole (readers a) (
 unfolding undamaged
 whole-area a e = whole-of (readers a) (capacity a) (memory a) (true-passes _ e)
 
-pub sound-area : (a : List ℕ) (n c : ℕ) → readers a ≡ n → capacity a ≡ c → Whole n c (memory a) → undamaged a ≡ true
+pub sound-area : (a : List ℕ) (n c : ℕ) → readers a ≡ n → capacity a ≡ c → Whole n c (memory a)
+    → undamaged a ≡ true
 unfolding undamaged
 sound-area a n c en ec w =
     passed _ (subst₂ (λ j k. T (all (memory-tests j k (memory a)))) (sym en) (sym ec) (of-whole n c (memory a) w))
@@ -128,7 +129,8 @@ opened a x z = go (is-area a) refl (undamaged a) refl (its-plan a x) refl
     comes-to b u y eb eu ey =
         λ i. cond (eb i) (cond (eu i) (carried-out (mover (readers a) x) a (ey i)) (refused 2 a)) (refused 1 a)
 
-    go : (b : Bool) → is-area a ≡ b → (u : Bool) → undamaged a ≡ u → (y : Plan) → its-plan a x ≡ y → Opened a x
+    go : (b : Bool) → is-area a ≡ b → (u : Bool) → undamaged a ≡ u → (y : Plan) → its-plan a x ≡ y
+        → Opened a x
     go false eb u eu y ey = let k = ap (λ r. r .number) (comes-to false u y eb eu ey) in absurd (omega arith)
     go true eb false eu y ey = let k = ap (λ r. r .number) (comes-to true false y eb eu ey) in absurd (omega arith)
     go true eb true eu (refuse j) ey =

@@ -57,7 +57,8 @@ ends-of (published ended) = cond ended 1 0
 ends-of (read-ended g) = 0
 ends-of write-ended = 1
 
-reads-noted : (t : ℕ) (h : History) (p : ℕ) (d : Deed) → length (noted t h p d .reads) ≡ reads-of d + length (h .reads)
+reads-noted : (t : ℕ) (h : History) (p : ℕ) (d : Deed)
+    → length (noted t h p d .reads) ≡ reads-of d + length (h .reads)
 reads-noted t h p read-began = omega arith
 reads-noted t h p (write-began v) = omega arith
 reads-noted t h p (went-on k) = omega arith
@@ -99,8 +100,8 @@ module _ (a : List ℕ) where
   by-process : (f : Deed → ℕ) (p j w : ℕ) (test : Bool) → Opened a (step p)
       → f (reader-deed p (memory a (phase p)) (stepped a p)) ≡ j
       → f (writer-deed its-phase (stepped a p)) ≡ w
-      → (p < readers a → cond test 1 0 ≡ j) → (p ≡ readers a → cond test 1 0 ≡ w) → f (event a (step p) .what)
-      ≡ cond test 1 0
+      → (p < readers a → cond test 1 0 ≡ j) → (p ≡ readers a → cond test 1 0 ≡ w)
+      → f (event a (step p) .what) ≡ cond test 1 0
   by-process f p j w test o reader writer at-reader at-writer =
       if-less (λ d. f d ≡ cond test 1 0) p (readers a) (reader-deed p (memory a (phase p)) (stepped a p))
       (writer-deed its-phase (stepped a p)) (λ l. reader ∙ sym (at-reader l))
@@ -232,7 +233,8 @@ ends-counted a (x ∷ l) (then z rest) =
     let m′ : Memory = apply (memory a) (o .stores) in
     let one : memory (answered a x .area) writes-ended ≡ ends-of (event a x .what) + memory a writes-ended =
     ap (λ m. m writes-ended) (after-memory o)
-    ∙ ended-moved (subst (λ e. Does (readers a) (capacity a) (memory a) e m′) (sym (observed a x o)) (does o .0)) in
+    ∙ ended-moved (subst (λ e. Does (readers a) (capacity a) (memory a) e m′) (sym (observed a x o))
+    (does o .0)) in
     omega (arith, ends-counted (answered a x .area) l rest, one, told-ends a x o)
 
 pub leaves-nothing-out : LeavesNothingOut

@@ -17,8 +17,9 @@ use Rattle.register.proofs.Placed.{Where, Sound, where-later, newest, n
 
 -- ---- one word more
 
-one-more : {pos : ℕ} {mine mine′ words : ℕ → ℕ} → ((j : ℕ) → j < pos → mine j ≡ words j) → mine′ pos ≡ words pos
-    → ((j : ℕ) → j ≢ pos → mine′ j ≡ mine j) → (j : ℕ) → j < suc pos → mine′ j ≡ words j
+one-more : {pos : ℕ} {mine mine′ words : ℕ → ℕ} → ((j : ℕ) → j < pos → mine j ≡ words j)
+    → mine′ pos ≡ words pos → ((j : ℕ) → j ≢ pos → mine′ j ≡ mine j) → (j : ℕ) → j < suc pos
+    → mine′ j ≡ words j
 one-more {pos} {mine} {mine′} {words} had new kept j l = go (ℕ-discrete j pos)
   where
     go : Dec (j ≡ pos) → mine′ j ≡ words j
@@ -38,15 +39,16 @@ pub record Reading (sizing : ℕ) (first : Record) (begin now : ℕ) (writes : L
 
 module _ {sizing : ℕ} {first : Record} where
   -- the clock goes on
-  pub reading-later : {begin now phase len pos number size its-number : ℕ} {writes : List Write} {mine words : ℕ → ℕ}
+  pub reading-later : {begin now phase len pos number size its-number : ℕ} {writes : List Write}
+      {mine words : ℕ → ℕ}
       → Reading sizing first begin now writes phase len pos number mine size its-number words
       → Reading sizing first begin (suc now) writes phase len pos number mine size its-number words
   reading-later {now = now} v =
       record { bound = λ x. where-later (suc now) (omega arith) (v .bound x); copied = v .copied }
 
   -- before its size step nothing is asked
-  pub not-yet : {begin now len pos number size its-number : ℕ} {writes : List Write} {mine words : ℕ → ℕ} (phase : ℕ)
-      → phase < sizing
+  pub not-yet : {begin now len pos number size its-number : ℕ} {writes : List Write} {mine words : ℕ → ℕ}
+      (phase : ℕ) → phase < sizing
       → Reading sizing first begin now writes phase len pos number mine size its-number words
   not-yet phase l = record { bound = λ x. absurd (omega arith); copied = λ x. absurd (omega arith) }
 
@@ -77,8 +79,8 @@ module _ {sizing : ℕ} {first : Record} where
         subst (λ l. Where first begin now l its-number writes) (ap (λ k. row k words) z) (v .bound (omega arith))
 
     -- a copying step, and the last one
-    pub copy-goes-on : (mine′ : ℕ → ℕ) → phase ≡ suc sizing → suc pos ≢ len → mine′ pos ≡ words pos
-        → ((j : ℕ) → j ≢ pos → mine′ j ≡ mine j)
+    pub copy-goes-on : (mine′ : ℕ → ℕ) → phase ≡ suc sizing → suc pos ≢ len
+        → mine′ pos ≡ words pos → ((j : ℕ) → j ≢ pos → mine′ j ≡ mine j)
         → Reading sizing first begin (suc now) writes phase len (suc pos) number mine′ size its-number words
     copy-goes-on mine′ e d new kept =
         record {
@@ -110,11 +112,12 @@ pub record Writing (told : ℕ) (given : Record) (k phase len pos ended : ℕ) (
   pub filled : 3 ≤ phase → phase < told → (j : ℕ) → j < len → words j ≡ mine j
   pub sized : 4 ≤ phase → phase < told → (size ≡ len) × (number ≡ suc ended)
 
-module _ {told : ℕ} {given : Record} {k phase len pos ended : ℕ} {mine : ℕ → ℕ} {size number : ℕ} {words : ℕ → ℕ}
+module _ {told : ℕ} {given : Record} {k phase len pos ended : ℕ} {mine : ℕ → ℕ} {size number : ℕ}
+    {words : ℕ → ℕ}
     (v : Writing told given k phase len pos ended mine size number words) (high : 4 < told) where
   -- what no later phase asks any more
-  pub write-begins : {size′ number′ : ℕ} {words′ : ℕ → ℕ} (u : Record) (mine′ : ℕ → ℕ) → phase ≡ 0
-      → row (length u) mine′ ≡ u
+  pub write-begins : {size′ number′ : ℕ} {words′ : ℕ → ℕ} (u : Record) (mine′ : ℕ → ℕ)
+      → phase ≡ 0 → row (length u) mine′ ≡ u
       → Writing told u k 1 (length u) 0 ended mine′ size′ number′ words′
   write-begins u mine′ e d =
       record {
@@ -141,9 +144,10 @@ module _ {told : ℕ} {given : Record} {k phase len pos ended : ℕ} {mine : ℕ
       }
 
   -- from phase 3 on, once all words are there
-  pub words-there : {size′ number′ : ℕ} (phase′ pos′ : ℕ) (words′ : ℕ → ℕ) → 1 ≤ phase → phase < told → 3 ≤ phase′
-      → phase′ < told
-      → ((j : ℕ) → j < len → words′ j ≡ mine j) → (4 ≤ phase′ → (size′ ≡ len) × (number′ ≡ suc ended))
+  pub words-there : {size′ number′ : ℕ} (phase′ pos′ : ℕ) (words′ : ℕ → ℕ) → 1 ≤ phase
+      → phase < told → 3 ≤ phase′ → phase′ < told
+      → ((j : ℕ) → j < len → words′ j ≡ mine j)
+      → (4 ≤ phase′ → (size′ ≡ len) × (number′ ≡ suc ended))
       → Writing told given k phase′ len pos′ ended mine size′ number′ words′
   words-there phase′ pos′ words′ lo hi lo′ hi′ there its-size =
       record {

@@ -72,7 +72,8 @@ module _ (n : ℕ) where
   -- reader r moved
   moved : (m m′ : Memory) (r : ℕ) → r < n → ((q : ℕ) → q ≢ r → m′ (phase q) ≡ m (phase q))
       → ((q : ℕ) → q ≢ r → m′ (last q) ≡ m (last q)) → (s : ℕ)
-      → bound n m′ s + is-bound s (m (phase r)) (m (last r)) ≡ bound n m s + is-bound s (m′ (phase r)) (m′ (last r))
+      → bound n m′ s + is-bound s (m (phase r)) (m (last r))
+      ≡ bound n m s + is-bound s (m′ (phase r)) (m′ (last r))
   unfolding bound
   moved m m′ r h ep el s =
       sum-one n (λ q. is-bound s (m′ (phase q)) (m′ (last q))) (λ q. is-bound s (m (phase q)) (m (last q))) r h
@@ -80,8 +81,8 @@ module _ (n : ℕ) where
 
   -- reader r moved to phase p, and is bound as before
   quiet : (m m′ : Memory) (r p : ℕ) → r < n → m (phase r) ≢ 3 → p ≢ 3
-      → ((q : ℕ) → m′ (phase q) ≡ cond (eqb q r) p (m (phase q))) → ((q : ℕ) → m′ (last q) ≡ m (last q)) → bound n m′
-      ≡ bound n m
+      → ((q : ℕ) → m′ (phase q) ≡ cond (eqb q r) p (m (phase q)))
+      → ((q : ℕ) → m′ (last q) ≡ m (last q)) → bound n m′ ≡ bound n m
   quiet m m′ r p h d d′ ep el =
       fun-ext
       (λ s. omega (arith, moved m m′ r h (λ q x. ep q ∙ miss q r x p (m (phase q))) (λ q x. el q) s, alike s))
@@ -103,8 +104,8 @@ module _ (n : ℕ) where
     pub counts : Counts m (bound n m)
 
   -- a reader that stays bound as it was
-  stays : (m : Memory) (m′ : Memory) → ((r : ℕ) → r < n → m′ (last r) < n + 2) → bound n m′ ≡ bound n m
-      → Counts m′ (bound n m)
+  stays : (m : Memory) (m′ : Memory) → ((r : ℕ) → r < n → m′ (last r) < n + 2)
+      → bound n m′ ≡ bound n m → Counts m′ (bound n m)
       → Counted m′
   stays m m′ lasts same counts = record { lasts = lasts; counts = subst (Counts m′) (sym same) counts }
 
@@ -133,14 +134,15 @@ module _ (n : ℕ) where
       gone s = unbound s (m′ (phase r)) l (hit r 3 (m (phase r)))
 
   -- reader step 3
-  joining : (m : Memory) (r : ℕ) → r < n → n < 4294967296 → m (phase r) ≡ 3 → counter (m current) < n → Counted m
-      → Counted (apply m (binds m r))
+  joining : (m : Memory) (r : ℕ) → r < n → n < 4294967296 → m (phase r) ≡ 3 → counter (m current) < n
+      → Counted m → Counted (apply m (binds m r))
   joining m r h big e x v =
       record {
         lasts = λ q k. at q k (ℕ-discrete q r);
         counts = subst₂ at-word (sym same) (sym more)
             (one-joins (v .counts) (bound n m′)
-            (λ s d. omega (arith, change s, gone s, bound-away s (m′ (phase r)) (m′ (last r)) (λ y. d (sym y ∙ here))))
+            (λ s d.
+            omega (arith, change s, gone s, bound-away s (m′ (phase r)) (m′ (last r)) (λ y. d (sym y ∙ here))))
             (omega (arith, change i, gone i, bound-here i (m′ (phase r)) (m′ (last r)) turned here)));
       }
     where
@@ -152,8 +154,8 @@ module _ (n : ℕ) where
 
       at-word : ℕ → ℕ → Type 0
       at-word i k =
-          Balance n i k (λ s. m (r-start s)) (λ s. m (r-end s)) (bound n m′) (m writer-phase) (m last-slot) (m in-hand)
-          (index (m old-word)) (counter (m old-word))
+          Balance n i k (λ s. m (r-start s)) (λ s. m (r-end s)) (bound n m′) (m writer-phase) (m last-slot)
+          (m in-hand) (index (m old-word)) (counter (m old-word))
 
       turned : m′ (phase r) ≢ 3
       turned y = omega (arith, hit r 4 (m (phase r)))
@@ -181,14 +183,13 @@ module _ (n : ℕ) where
       at q k (no y) = rw (miss q r y (index (suc (m current))) (m (last q))) (v .lasts q k)
 
   -- writer steps 2 and 3
-  filling-on : (m : Memory) (k : ℕ) → 2 ≤ m writer-phase → m writer-phase ≤ 5 → 2 ≤ k → k ≤ 5 → Counts m (bound n m)
+  filling-on : (m : Memory) (k : ℕ) → 2 ≤ m writer-phase → m writer-phase ≤ 5 → 2 ≤ k → k ≤ 5
+      → Counts m (bound n m)
       → Balance n (index (m current)) (counter (m current)) (λ s. m (r-start s)) (λ s. m (r-end s)) (bound n m) k
-      (m last-slot)
-      (m in-hand) (index (m old-word)) (counter (m old-word))
+      (m last-slot) (m in-hand) (index (m old-word)) (counter (m old-word))
   filling-on m k lo hi lo′ hi′ b =
       hand-filled b (λ s. m (r-start s)) (λ s. m (r-end s)) k lo hi lo′ (omega arith) (λ y. absurd (omega arith))
-      (λ s d. refl)
-      (λ s d. refl)
+      (λ s d. refl) (λ s d. refl)
 
   -- writer steps 4 and 5
   clearing : (m : Memory) → m writer-phase ≡ 4 → Counted m → Counted (apply m (clears-start m))
@@ -196,7 +197,8 @@ module _ (n : ℕ) where
   clearing m e v =
       record {
         lasts = v .lasts;
-        counts = hand-filled (v .counts) (λ s. apply m (clears-start m) (r-start s)) (λ s. m (r-end s)) 5 (omega arith)
+        counts =
+            hand-filled (v .counts) (λ s. apply m (clears-start m) (r-start s)) (λ s. m (r-end s)) 5 (omega arith)
             (omega arith) (omega arith) (omega arith) (λ y. absurd (omega arith))
             (λ s d. miss s (m in-hand) d 0 (m (r-start s))) (λ s d. refl);
       }
@@ -224,24 +226,29 @@ module _ (n : ℕ) where
       }
 
   -- writer step 6
-  publishing : (m : Memory) → m writer-phase ≡ 6 → Counts m (bound n m) → Counts (apply m (publishes m)) (bound n m)
+  publishing : (m : Memory) → m writer-phase ≡ 6 → Counts m (bound n m)
+      → Counts (apply m (publishes m)) (bound n m)
   publishing m e b =
       let i : index (m in-hand * 4294967296) ≡ m in-hand = omega arith in
       let k : counter (m in-hand * 4294967296) ≡ 0 = omega arith in
       rw (i, k) (hand-published b e)
 
   -- every accepted move keeps the counts
-  pub keeps-counts : n < 4294967296 → {c : ℕ} {m m′ : Memory} {e : Event} → Counted m → Does n c m e m′ → Counted m′
+  pub keeps-counts : n < 4294967296 → {c : ℕ} {m m′ : Memory} {e : Event} → Counted m → Does n c m e m′
+      → Counted m′
   unfolding bound
   keeps-counts big {m = m} v (Moves.read-starts r h e) =
       stays m (apply m (turns r 1)) (v .lasts)
-      (quiet m (apply m (turns r 1)) r 1 h (λ x. omega arith) (λ x. omega arith) (λ q. refl) (λ q. refl)) (v .counts)
+      (quiet m (apply m (turns r 1)) r 1 h (λ x. omega arith) (λ x. omega arith) (λ q. refl) (λ q. refl))
+      (v .counts)
   keeps-counts big {m = m} v (Moves.finds-same r h e x) =
       stays m (apply m (turns r 4)) (v .lasts)
-      (quiet m (apply m (turns r 4)) r 4 h (λ y. omega arith) (λ y. omega arith) (λ q. refl) (λ q. refl)) (v .counts)
+      (quiet m (apply m (turns r 4)) r 4 h (λ y. omega arith) (λ y. omega arith) (λ q. refl) (λ q. refl))
+      (v .counts)
   keeps-counts big {m = m} v (Moves.finds-other r h e x) =
       stays m (apply m (turns r 2)) (v .lasts)
-      (quiet m (apply m (turns r 2)) r 2 h (λ y. omega arith) (λ y. omega arith) (λ q. refl) (λ q. refl)) (v .counts)
+      (quiet m (apply m (turns r 2)) r 2 h (λ y. omega arith) (λ y. omega arith) (λ q. refl) (λ q. refl))
+      (v .counts)
   keeps-counts big v (Moves.leaves-slot r h e x) = leaving _ r h e v
   keeps-counts big v (Moves.joins-slot r h e x) = joining _ r h big e x v
   keeps-counts big {m = m} v (Moves.takes-none r h e x) =

@@ -30,7 +30,8 @@ pub record Aged (now : ℕ) (writes : List Write) (x : Read) : Type 0 where
 
 -- ---- how many have ended
 
-past-later : (now : ℕ) (writes : List Write) → Each (λ w. w .end < now) writes → Each (λ w. w .end < suc now) writes
+past-later : (now : ℕ) (writes : List Write) → Each (λ w. w .end < now) writes
+    → Each (λ w. w .end < suc now) writes
 past-later now writes = each-follows (λ w b. omega arith)
 
 all-counted : (now : ℕ) (writes : List Write) → Each (λ w. w .end < now) writes → ended-before now writes
@@ -87,7 +88,8 @@ pub record Dated (total : ℕ) (m : Memory) (h : History) : Type 0 where
   pub ends : Ends total (h .moves) (m writer-phase) (h .writes)
   pub ages : Each (Aged (h .moves) (h .writes)) (h .reads)
 
-module _ (n : ℕ) (first : Record) (total : ℕ) {m : Memory} {h : History} (w : Told n first m h) (v : Dated total m h)
+module _ (n : ℕ) (first : Record) (total : ℕ) {m : Memory} {h : History} (w : Told n first m h)
+    (v : Dated total m h)
     (t : h .moves < total) where
   same-ages : Each (Aged (suc (h .moves)) (h .writes)) (h .reads)
   same-ages = ages-kept (h .moves) (h .writes) (h .writes) (h .reads) (λ j l. refl) (v .ages)
@@ -103,8 +105,8 @@ module _ (n : ℕ) (first : Record) (total : ℕ) {m : Memory} {h : History} (w 
         age = ap (λ x. x - k) (ended-now (omega arith) (v .ends) (w .writer));
       }) same-ages
 
-  writer-on : {m′ : Memory} (h′ : History) → h′ .moves ≡ suc (h .moves) → h′ .writes ≡ h .writes → h′ .reads ≡ h .reads
-      → m writer-phase ≢ 7 → m′ writer-phase ≢ 7 → Dated total m′ h′
+  writer-on : {m′ : Memory} (h′ : History) → h′ .moves ≡ suc (h .moves) → h′ .writes ≡ h .writes
+      → h′ .reads ≡ h .reads → m writer-phase ≢ 7 → m′ writer-phase ≢ 7 → Dated total m′ h′
   writer-on {m′ = m′} h′ em ew er d d′ =
       record { ends = rw (em, ew) (all-ended d′ (all-past d (v .ends))); ages = rw (em, ew, er) same-ages }
 
@@ -114,7 +116,8 @@ module _ (n : ℕ) (first : Record) (total : ℕ) {m : Memory} {h : History} (w 
       × ((j : ℕ) → j < now → ended-before j (closed now k writes) ≡ ended-before j writes)
   closing k l e (all-ended d past) = absurd (d e)
   closing {now = now} k l e (one-open {w = x} {writes = writes} e′ still past) = (
-    let past′ : now < suc now = omega arith in all-ended (λ z. omega arith) (also past′ (past-later now writes past)),
+    let past′ : now < suc now = omega arith in
+        all-ended (λ z. omega arith) (also past′ (past-later now writes past)),
     λ j b. rw (ltb-beyond now j (omega arith), ltb-beyond (x .end) j (omega arith)),
   )
 

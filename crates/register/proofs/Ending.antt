@@ -34,7 +34,8 @@ plan-number a x ea es = rw (ea, es) (go (its-plan a x))
     go (refuse k) = refl
     go (accept stores ends) = refl
 
-module _ {n c : ℕ} {first : Record} {all-moves : ℕ} {a : List ℕ} {h : History} (g : Good n c first all-moves a h) where
+module _ {n c : ℕ} {first : Record} {all-moves : ℕ} {a : List ℕ} {h : History}
+    (g : Good n c first all-moves a h) where
   whole : Whole n c (memory a)
   whole = subst₂ (λ j k. Whole j k (memory a)) (g .its-readers) (g .its-capacity) (whole-area a (g .sound))
 

@@ -124,7 +124,7 @@ module _ (n c : ℕ) where
       }
 
   -- a record that is copied into a row
-  pub own-copied : (at : ℕ → Place) → ((i : ℕ) → i < c → Own (at i)) → (v : Record) (i : ℕ) → i + length v ≤ c
-      → AllOwn (copied at i v)
+  pub own-copied : (at : ℕ → Place) → ((i : ℕ) → i < c → Own (at i)) → (v : Record) (i : ℕ)
+      → i + length v ≤ c → AllOwn (copied at i v)
   own-copied at h [] i l = none
   own-copied at h (x ∷ v) i l = also (h i (omega arith)) (own-copied at h v (suc i) (omega arith))

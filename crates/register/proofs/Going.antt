@@ -26,7 +26,8 @@ number-of (refuse k) = k
 number-of (accept stores ends) = 0
 
 module _ (n c : ℕ) (m : Memory) where
-  pub read-begin-number : (r : ℕ) → number-of (read-plan n m r) ≡ cond (ltb r n) (cond (eqb (m (phase r)) 0) 0 5) 3
+  pub read-begin-number : (r : ℕ)
+      → number-of (read-plan n m r) ≡ cond (ltb r n) (cond (eqb (m (phase r)) 0) 0 5) 3
   read-begin-number r = go (ltb r n) (eqb (m (phase r)) 0)
     where
       go : (a b : Bool) → number-of (cond a (cond b (accept (Steps.turns r 1) false) (refuse 5)) (refuse 3))
@@ -40,7 +41,8 @@ module _ (n c : ℕ) (m : Memory) where
   write-begin-number v = go (leb (length v) c) (eqb (m writer-phase) 0) (ltb (m writes-ended) most-writes)
     where
       go : (a b d : Bool)
-          → number-of (cond a (cond b (cond d (accept (Steps.begins-write v) false) (refuse 7)) (refuse 5)) (refuse 4))
+          → number-of (cond a (cond b (cond d (accept (Steps.begins-write v) false) (refuse 7)) (refuse 5))
+          (refuse 4))
           ≡ cond a (cond b (cond d 0 7) 5) 4
       go true true true = refl
       go true true false = refl

@@ -57,7 +57,8 @@ module _ (n : ℕ) (m : Memory) where
 
   module _ (v : Counted n m) where
     -- the slot in the writer's hand has no reader
-    pub unheld : 2 ≤ m writer-phase → m writer-phase ≤ 6 → (r : ℕ) → r < n → m (phase r) ≢ 3 → m (last r) ≢ m in-hand
+    pub unheld : 2 ≤ m writer-phase → m writer-phase ≤ 6 → (r : ℕ) → r < n → m (phase r) ≢ 3
+        → m (last r) ≢ m in-hand
     unheld lo hi r h d e = go (v .counts .stage)
       where
         go : {away : ℕ} → At-stage away → ⊥
@@ -87,8 +88,8 @@ module _ (n : ℕ) (m : Memory) where
         go (told p q a x g z) = absurd (omega arith)
 
     -- a look that finds its slot taken is not at the last one
-    pub more-slots : m writer-phase ≡ 1 → (m in-hand ≢ m last-slot → m (r-start (m in-hand)) ≢ m (r-end (m in-hand)))
-        → m in-hand ≢ suc n
+    pub more-slots : m writer-phase ≡ 1
+        → (m in-hand ≢ m last-slot → m (r-start (m in-hand)) ≢ m (r-end (m in-hand))) → m in-hand ≢ suc n
     more-slots e taken = hand-held (v .counts) e taken .1
 
     -- what is published has no reader gone
@@ -102,12 +103,13 @@ module _ (n : ℕ) (m : Memory) where
         go (told p q a x g z) = absurd (omega arith)
 
     -- reader step 3 finds room where nobody has gone from the current slot
-    pub counter-room : m (r-end (index (m current))) ≡ 0 → (r : ℕ) → r < n → m (phase r) ≡ 3 → counter (m current) < n
+    pub counter-room : m (r-end (index (m current))) ≡ 0 → (r : ℕ) → r < n → m (phase r) ≡ 3
+        → counter (m current) < n
     counter-room z r h e = omega (arith, v .counts .now, one-fewer r h e (index (m current)))
 
     -- reader step 2 finds room: the slot that it leaves has more readers counted than gone
-    pub end-room : (r : ℕ) → r < n → m (phase r) ≡ 2 → m (last r) ≢ index (m current) → m (r-start (m (last r))) ≤ n
-        → counter (m old-word) ≤ n → m (r-end (m (last r))) < n
+    pub end-room : (r : ℕ) → r < n → m (phase r) ≡ 2 → m (last r) ≢ index (m current)
+        → m (r-start (m (last r))) ≤ n → counter (m old-word) ≤ n → m (r-end (m (last r))) < n
     end-room r h e d few old-few = go (v .counts .away) (v .counts .stage) (v .counts .settled)
       where
         bound-there : 1 ≤ bound n m (m (last r))

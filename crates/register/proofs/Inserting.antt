@@ -18,9 +18,9 @@ use Rattle.register.proofs.Placed.{Apart, no-writes, one-write, AllPlac
 pub data Lined (first : Record) (t : ℕ) : ℕ → List Write → List Operation → Type 0 where
   nothing : {latest : ℕ} → Lined first t latest [] []
   with-read : {latest : ℕ} {x : Read} {writes : List Write} {line : List Operation} (moment : ℕ)
-      → moment ≤ latest → x .begin ≤ moment → moment ≤ x .end → x .end ≤ t → x .gets .number ≡ length writes
-      → x .gets .shows ≡ newest first writes → Lined first t moment writes line
-      → Lined first t latest writes (reading x ∷ line)
+      → moment ≤ latest → x .begin ≤ moment → moment ≤ x .end → x .end ≤ t
+      → x .gets .number ≡ length writes → x .gets .shows ≡ newest first writes
+      → Lined first t moment writes line → Lined first t latest writes (reading x ∷ line)
   with-write : {latest : ℕ} {w : Write} {writes : List Write} {line : List Operation}
       → w .publication ≤ latest → w .begin ≤ w .publication → w .publication ≤ w .end
       → Lined first t (w .publication) writes line → Lined first t latest (w ∷ writes) (writing w ∷ line)

@@ -34,7 +34,8 @@ EndsNothing (accept stores ends) = ends ≡ false
 begin-ends-nothing : (a : List ℕ) (r : ℕ) → EndsNothing (its-plan a (read r))
 begin-ends-nothing a r =
     if-true EndsNothing (ltb r (readers a)) _ (refuse 3)
-    (λ x. if-true EndsNothing (eqb (memory a (phase r)) 0) (accept (turns r 1) false) (refuse 5) (λ y. refl) (λ y. tt))
+    (λ x. if-true EndsNothing (eqb (memory a (phase r)) 0) (accept (turns r 1) false) (refuse 5) (λ y. refl)
+    (λ y. tt))
     (λ x. tt)
 
 write-ends-nothing : (a : List ℕ) (v : Record) → EndsNothing (its-plan a (write v))
@@ -47,7 +48,8 @@ write-ends-nothing a v =
     (λ z. refl)
     (λ z. tt)) (λ y. tt)) (λ x. tt)
 
-step-ends : (n : ℕ) (m : Memory) (p : ℕ) (ends : Bool) (m′ : Memory) → is-end (seen n m (step p) ends m′) ≡ ends
+step-ends : (n : ℕ) (m : Memory) (p : ℕ) (ends : Bool) (m′ : Memory)
+    → is-end (seen n m (step p) ends m′) ≡ ends
 step-ends n m p ends m′ = go (ltb p n) ends
   where
     writer : (s b t : Bool)

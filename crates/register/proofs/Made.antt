@@ -71,7 +71,8 @@ accepted-when n c v a n1 n64 c1 c256 l short =
     (also (le→leb _ _ n1) (also (le→leb _ _ n64) (also (le→leb _ _ c1) (also (le→leb _ _ c256) none))))) in
     rw (range, eqb-equal (length a) (total (form1 n c)) exact, passed (leb (length v) c) (le→leb _ _ short))
 
-refused-made : (form n c : ℕ) (v : Record) (a : List ℕ) → made form n c v a .number ≢ 0 → Refused a (made form n c v a)
+refused-made : (form n c : ℕ) (v : Record) (a : List ℕ) → made form n c v a .number ≢ 0
+    → Refused a (made form n c v a)
 unfolding made
 refused-made form n c v a =
     if-true P (known-form form && in-range n c) _ (refused 9 a)

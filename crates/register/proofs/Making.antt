@@ -47,8 +47,9 @@ module _ (n c : ℕ) (v : Record) where
   abbrev blank : Memory
   blank =
       apply (λ p. 0)
-      (header 0 ≔ 1 ∷ header 1 ≔ n ∷ header 2 ≔ c ∷ header 3 ≔ total (form1 n c) ∷ header 4 ≔ slots-at n c
-      ∷ header 5 ≔ desks-at n c ∷ header 6 ≔ writer-at n c ∷ current ≔ n ∷ size 0 ≔ length v ∷ [])
+      (header 0 ≔ 1 ∷ header 1 ≔ n ∷ header 2 ≔ c ∷ header 3 ≔ total (form1 n c)
+      ∷ header 4 ≔ slots-at n c ∷ header 5 ≔ desks-at n c ∷ header 6 ≔ writer-at n c
+      ∷ current ≔ n ∷ size 0 ≔ length v ∷ [])
 
   contents-apart : (i j : ℕ) → contents 0 i ≡ contents 0 j → i ≡ j
   contents-apart i j e = ap (λ p. p .column) e

@@ -80,8 +80,9 @@ pub data Does (n c : ℕ) (m : Memory) : Event → Memory → Type 0 where
   picks-slot : m writer-phase ≡ 1 → m in-hand ≢ m last-slot → m (r-start (m in-hand)) ≡ m (r-end (m in-hand))
       → m writer-len ≢ 0
       → Does n c m (by n looked) (apply m (to-phase 2))
-  passes-slot : m writer-phase ≡ 1 → (m in-hand ≢ m last-slot → m (r-start (m in-hand)) ≢ m (r-end (m in-hand)))
-      → m in-hand ≢ suc n → Does n c m (by n looked) (apply m (passes m))
+  passes-slot : m writer-phase ≡ 1
+      → (m in-hand ≢ m last-slot → m (r-start (m in-hand)) ≢ m (r-end (m in-hand))) → m in-hand ≢ suc n
+      → Does n c m (by n looked) (apply m (passes m))
   fills-word : m writer-phase ≡ 2 → suc (m writer-pos) ≢ m writer-len
       → Does n c m (by n (went-on 2)) (apply m (fills-to m 2))
   fills-last : m writer-phase ≡ 2 → suc (m writer-pos) ≡ m writer-len

@@ -60,7 +60,8 @@ rested (Moves.exchanges e) = tt
 rested (Moves.write-ends e) = tt
 
 -- the record that showing gives is the one in the desk
-pub shows-desk : (a : List ℕ) (r : ℕ) → length a ≡ total (table a) → r < readers a → memory a (len r) ≤ capacity a
+pub shows-desk : (a : List ℕ) (r : ℕ) → length a ≡ total (table a) → r < readers a
+    → memory a (len r) ≤ capacity a
     → words-from a (address (table a) (read-record r 0)) (memory a (len r)) ≡ desk-record (memory a) r
 shows-desk a r e l k =
     words-row a start (memory a (len r)) (omega (arith, e, mul-le-mul-right (6 + capacity a) l, k))
@@ -107,7 +108,8 @@ module _ (a : List ℕ) (p : ℕ) (o : Opened a (step p)) where
         (also (true-passes _ (after-sound o))
         (also (lt→ltb _ _ still)
         (also (true-passes _ (eqb-equal _ _ (ap (λ m. m (phase p)) (after-memory o) ∙ reader-rests .0)))
-        (also (true-passes _ (eqb-equal _ _ (ap (λ m. m (finished p)) (after-memory o) ∙ reader-rests .1))) none))))))
+        (also (true-passes _ (eqb-equal _ _ (ap (λ m. m (finished p)) (after-memory o) ∙ reader-rests .1)))
+        none))))))
 
     shows-record : shown b p [] ≡ desk-record m′ p
     unfolding shown
@@ -140,7 +142,8 @@ module _ (a : List ℕ) (p : ℕ) (o : Opened a (step p)) where
       Seen : Bool → Deed
       Seen ends = cond ends (read-ended (got p (stepped a p))) (went-on (memory a (phase p)))
 
-      go : (t : Bool) → o .ends ≡ t → Seen t ≡ cond t (read-ended (seen-got m′ p)) (went-on (memory a (phase p)))
+      go : (t : Bool) → o .ends ≡ t
+          → Seen t ≡ cond t (read-ended (seen-got m′ p)) (went-on (memory a (phase p)))
       go true e = ap read-ended (same-got l e)
       go false e = refl
 

@@ -27,7 +27,8 @@ is-end (published ended) = ended
 is-end (read-ended g) = true
 is-end write-ended = true
 
-pub works : {n c : ℕ} {m m′ : Memory} {e : Event} → Does n c m e m′ → busy-in n m′ (e .who) ≡ not (is-end (e .what))
+pub works : {n c : ℕ} {m m′ : Memory} {e : Event} → Does n c m e m′
+    → busy-in n m′ (e .who) ≡ not (is-end (e .what))
 works {n = n} (Moves.read-starts r l e) = rw (ltb-below r n l, eqb-same r)
 works {n = n} (Moves.finds-same r l e x) = rw (ltb-below r n l, eqb-same r)
 works {n = n} (Moves.finds-other r l e x) = rw (ltb-below r n l, eqb-same r)
@@ -56,7 +57,8 @@ pub record DeskSame (m m′ : Memory) (r : ℕ) : Type 0 where
   pub length-word : m′ (len r) ≡ m (len r)
   pub words : (j : ℕ) → m′ (read-record r j) ≡ m (read-record r j)
 
-pub desk-same : {n c : ℕ} {m m′ : Memory} {e : Event} → Does n c m e m′ → (r : ℕ) → r ≢ e .who → DeskSame m m′ r
+pub desk-same : {n c : ℕ} {m m′ : Memory} {e : Event} → Does n c m e m′ → (r : ℕ) → r ≢ e .who
+    → DeskSame m m′ r
 desk-same (Moves.read-starts q l e) r d =
     record { phases = rw (eqb-other r q d); flag = refl; length-word = refl; words = λ j. refl }
 desk-same (Moves.finds-same q l e x) r d =
@@ -99,7 +101,8 @@ desk-same (Moves.clears-second e) r d = record { phases = refl; flag = refl; len
 desk-same (Moves.exchanges e) r d = record { phases = refl; flag = refl; length-word = refl; words = λ j. refl }
 desk-same (Moves.write-ends e) r d = record { phases = refl; flag = refl; length-word = refl; words = λ j. refl }
 
-writer-same : {n c : ℕ} {m m′ : Memory} {e : Event} → Does n c m e m′ → e .who ≢ n → m′ writer-phase ≡ m writer-phase
+writer-same : {n c : ℕ} {m m′ : Memory} {e : Event} → Does n c m e m′ → e .who ≢ n
+    → m′ writer-phase ≡ m writer-phase
 writer-same (Moves.read-starts r l e) d = refl
 writer-same (Moves.finds-same r l e x) d = refl
 writer-same (Moves.finds-other r l e x) d = refl
@@ -122,8 +125,8 @@ writer-same (Moves.exchanges e) d = absurd (d refl)
 writer-same (Moves.write-ends e) d = absurd (d refl)
 
 -- nobody else becomes busy or idle
-pub others-same : {n c : ℕ} {m m′ : Memory} {e : Event} → Does n c m e m′ → (p : ℕ) → p ≤ n → p ≢ e .who
-    → busy-in n m′ p ≡ busy-in n m p
+pub others-same : {n c : ℕ} {m m′ : Memory} {e : Event} → Does n c m e m′ → (p : ℕ) → p ≤ n
+    → p ≢ e .who → busy-in n m′ p ≡ busy-in n m p
 others-same {n = n} {m = m} {m′ = m′} {e = e} x p l d = go (ltb p n) refl
   where
     -- the writer is none of the readers

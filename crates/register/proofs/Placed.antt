@@ -34,7 +34,8 @@ pub record Where (first : Record) (begin end : ℕ) (v : Record) (n : ℕ) (writ
 pub data Apart : ℕ → List Write → Type 0 where
   no-writes : {t : ℕ} → Apart t []
   one-write : {t : ℕ} {w : Write} {writes : List Write} → w .begin ≤ w .publication
-      → w .publication ≤ w .end → w .publication ≤ t → Apart (w .publication) writes → Apart t (w ∷ writes)
+      → w .publication ≤ w .end → w .publication ≤ t → Apart (w .publication) writes
+      → Apart t (w ∷ writes)
 
 -- reads: each is placed; all ended by t, in the order of the list
 pub data AllPlaced (first : Record) (writes : List Write) : ℕ → List Read → Type 0 where
@@ -57,14 +58,14 @@ newest first (w ∷ writes) = w .gives
 
 module _ {first : Record} {begin end : ℕ} {v : Record} where
   -- a read that ends later is placed where it was
-  pub later : {back : ℕ} {writes : List Write} (end′ : ℕ) → end ≤ end′ → Placed first begin end v back writes
-      → Placed first begin end′ v back writes
+  pub later : {back : ℕ} {writes : List Write} (end′ : ℕ) → end ≤ end′
+      → Placed first begin end v back writes → Placed first begin end′ v back writes
   later end′ h (at-start e) = at-start e
   later end′ h (at-newest q e) = at-newest (le-trans q h) e
   later end′ h (further-back q p) = further-back q (later end′ h p)
 
-  pub where-later : {n : ℕ} {writes : List Write} (end′ : ℕ) → end ≤ end′ → Where first begin end v n writes
-      → Where first begin end′ v n writes
+  pub where-later : {n : ℕ} {writes : List Write} (end′ : ℕ) → end ≤ end′
+      → Where first begin end v n writes → Where first begin end′ v n writes
   where-later end′ h a = record { back = a .back; placed = later end′ h (a .placed); number = a .number }
 
   -- a write published since the read began puts it one further back

@@ -13,8 +13,8 @@ use Rattle.register.proofs.Tests.{eqb-same, eqb-other, same-either, tru
 
 -- ---- one place changed
 
-pub place-equal : (p q : Place) → p .part ≡ q .part → p .field ≡ q .field → p .row ≡ q .row → p .column ≡ q .column
-    → p ≡ q
+pub place-equal : (p q : Place) → p .part ≡ q .part → p .field ≡ q .field → p .row ≡ q .row
+    → p .column ≡ q .column → p ≡ q
 place-equal p q a b c d = λ i. record { part = a i; field = b i; row = c i; column = d i }
 
 pub place-discrete : (q p : Place) → Dec (q ≡ p)
@@ -22,8 +22,8 @@ place-discrete q p =
     at (ℕ-discrete (q .part) (p .part)) (ℕ-discrete (q .field) (p .field)) (ℕ-discrete (q .row) (p .row))
     (ℕ-discrete (q .column) (p .column))
   where
-    at : Dec (q .part ≡ p .part) → Dec (q .field ≡ p .field) → Dec (q .row ≡ p .row) → Dec (q .column ≡ p .column)
-        → Dec (q ≡ p)
+    at : Dec (q .part ≡ p .part) → Dec (q .field ≡ p .field) → Dec (q .row ≡ p .row)
+        → Dec (q .column ≡ p .column) → Dec (q ≡ p)
     at (no x) b c d = no (λ e. x (ap (λ y. y .part) e))
     at (yes x) (no y) c d = no (λ e. y (ap (λ k. k .field) e))
     at (yes x) (yes y) (no z) d = no (λ e. z (ap (λ k. k .row) e))
@@ -41,8 +41,8 @@ changed-elsewhere m p v q d =
     any : (b : Bool) → cond b (m q) (m q) ≡ m q
     any b = same-either b (m q)
 
-    at : Dec (q .part ≡ p .part) → Dec (q .field ≡ p .field) → Dec (q .row ≡ p .row) → Dec (q .column ≡ p .column)
-        → changed m p v q ≡ m q
+    at : Dec (q .part ≡ p .part) → Dec (q .field ≡ p .field) → Dec (q .row ≡ p .row)
+        → Dec (q .column ≡ p .column) → changed m p v q ≡ m q
     at (no x) b c e = rw (eqb-other (q .part) (p .part) x)
     at (yes x) (no y) c e = rw (eqb-other (q .field) (p .field) y) (any (eqb (q .part) (p .part)))
     at (yes x) (yes y) (no z) e =
@@ -66,15 +66,15 @@ module _ (at : ℕ → Place) (apart : (i j : ℕ) → at i ≡ at j → i ≡ j
   copied-elsewhere m (x ∷ v) i q d =
       copied-elsewhere (changed m (at i) x) v (suc i) q d ∙ changed-elsewhere m (at i) x q (d i)
 
-  pub copied-past : (m : Memory) (v : Record) (i j : ℕ) → (i ≤ j → i + length v ≤ j) → apply m (copied at i v) (at j)
-      ≡ m (at j)
+  pub copied-past : (m : Memory) (v : Record) (i j : ℕ) → (i ≤ j → i + length v ≤ j)
+      → apply m (copied at i v) (at j) ≡ m (at j)
   copied-past m [] i j d = refl
   copied-past m (x ∷ v) i j d =
       copied-past (changed m (at i) x) v (suc i) j (λ l. omega (arith, d (omega arith)))
       ∙ changed-elsewhere m (at i) x (at j) (λ e. omega (arith, apart j i e, d (omega (arith, apart j i e))))
 
-  pub copied-here : (m : Memory) (v : Record) (i j k : ℕ) → j < length v → k ≡ i + j → apply m (copied at i v) (at k)
-      ≡ getD v j 0
+  pub copied-here : (m : Memory) (v : Record) (i j k : ℕ) → j < length v → k ≡ i + j
+      → apply m (copied at i v) (at k) ≡ getD v j 0
   copied-here m [] i j k l e = absurd (omega arith)
   copied-here m (x ∷ v) i zero k l e =
       let same : k ≡ i = omega arith in

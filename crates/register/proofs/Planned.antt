@@ -55,7 +55,8 @@ seen n m (step p) ends m′ = seen-step (ltb p n) m p ends m′
 -- ---- a begin of a write as the relation has it
 
 begun : (m : Memory) (v : Record) → apply m (begins-write v) ≡ apply (desk-with m v) (sets-out v)
-begun m v = apply-append m (copied write-record 0 v) (sets-out v) ∙ ap (λ k. apply k (sets-out v)) (fun-ext copied-in)
+begun m v =
+    apply-append m (copied write-record 0 v) (sets-out v) ∙ ap (λ k. apply k (sets-out v)) (fun-ext copied-in)
   where
     apart : (i j : ℕ) → write-record i ≡ write-record j → i ≡ j
     apart i j e = ap (λ p. p .column) e
@@ -90,7 +91,8 @@ module _ (n c : ℕ) (m : Memory) where
       Does n c m (by p (what ends (apply m stores))) (apply m stores) × AllOwn n c stores
 
   -- seen by another name
-  renamed : {p : ℕ} {d d′ : Deed} {m′ : Memory} → d ≡ d′ → Does n c m (by p d) m′ → Does n c m (by p d′) m′
+  renamed : {p : ℕ} {d d′ : Deed} {m′ : Memory} → d ≡ d′ → Does n c m (by p d) m′
+      → Does n c m (by p d′) m′
   renamed {p = p} {m′ = m′} e x = subst (λ d. Does n c m (by p d) m′) e x
 
   module _ (v : Whole n c m) where
@@ -176,8 +178,8 @@ module _ (n c : ℕ) (m : Memory) where
     W = Outcome n (λ ends m′. seen-writer (m writer-phase) ends)
 
     -- a step out of phase k
-    out-of : {m′ : Memory} (ends : Bool) (k : ℕ) → m writer-phase ≡ k → Does n c m (by n (seen-writer k ends)) m′
-        → Does n c m (by n (seen-writer (m writer-phase) ends)) m′
+    out-of : {m′ : Memory} (ends : Bool) (k : ℕ) → m writer-phase ≡ k
+        → Does n c m (by n (seen-writer k ends)) m′ → Does n c m (by n (seen-writer (m writer-phase) ends)) m′
     out-of ends k e x = renamed (ap (λ j. seen-writer j ends) (sym e)) x
 
     scans : m writer-phase ≡ 1

@@ -41,7 +41,8 @@ last-slot-kept = read 0 ∷ write6 ∷ step 0 ∷ step 0 ∷ step 1 ∷ step 1 �
 
 -- a slot filled again: write 6 goes to slot 1, the reader follows, write 7 goes to slot 0
 abbrev filled-again : List Move
-filled-again = (write6 ∷ replicate 8 (step 1)) ++ (read 0 ∷ replicate 5 (step 0)) ++ (write7 ∷ replicate 7 (step 1))
+filled-again =
+    (write6 ∷ replicate 8 (step 1)) ++ (read 0 ∷ replicate 5 (step 0)) ++ (write7 ∷ replicate 7 (step 1))
 
 abbrev rows : List Row
 rows =

@@ -71,7 +71,8 @@ small-runs =
     ∷ row-of (current-word (after areaP1 (read 0 ∷ step 0 ∷ step 0 ∷ step 0 ∷ [])) ∷ []) (1 ∷ [])
     -- P7: the looks, newest first; the slot of each write
     ∷ row-of (map (λ w. w .looks) (history areaP1 two-writes .writes)) (3 ∷ 2 ∷ [])
-    ∷ row-of (memory (after areaP1 (written (8 ∷ []) 8)) in-hand ∷ memory (after areaP1 two-writes) in-hand ∷ [])
+    ∷ row-of (memory (after areaP1 (written (8 ∷ []) 8)) in-hand
+    ∷ memory (after areaP1 two-writes) in-hand ∷ [])
     (1 ∷ 2 ∷ [])
     -- P8
     ∷ row-of (said (answer-to areaP8 paused (step 0))) (0 ∷ 1 ∷ 2 ∷ 1 ∷ 2 ∷ [])

@@ -100,7 +100,8 @@ module _ (n c : ℕ) (big : n < 4294967296) where
         }
 
     -- reader step 5, whatever phase it turns to
-    copying : (r k flag : ℕ) → r < n → m (phase r) ≡ 5 → flag ≤ 1 → k ≤ 5 → (k ≡ 5 → suc (m (pos r)) < m (len r))
+    copying : (r k flag : ℕ) → r < n → m (phase r) ≡ 5 → flag ≤ 1 → k ≤ 5
+        → (k ≡ 5 → suc (m (pos r)) < m (len r))
         → DeskWhole n c k (m (last r)) (suc (m (pos r))) (m (len r)) flag
     copying r k flag l e fl hi more =
         let d = v .desk r l in

@@ -22,7 +22,11 @@ pub record ReaderSteps (made phase pos : ℕ) : Type 0 where
 
 pub at-rest : {made pos : ℕ} → ReaderSteps made 0 pos
 at-rest =
-    record { early = λ x y. absurd (omega arith); bound = λ x. absurd (omega arith); late = λ x. absurd (omega arith) }
+    record {
+      early = λ x y. absurd (omega arith);
+      bound = λ x. absurd (omega arith);
+      late = λ x. absurd (omega arith);
+    }
 
 pub first-step : {pos : ℕ} → ReaderSteps 0 1 pos
 first-step = record { early = λ x y. refl; bound = λ x. absurd (omega arith); late = λ x. absurd (omega arith) }
@@ -95,8 +99,8 @@ pub record WriterSteps (n looks made phase hand len pos new seen : ℕ) : Type 0
 
 module _ {n looks made phase hand len pos new seen : ℕ}
     (v : WriterSteps n looks made phase hand len pos new seen) where
-  pub look-finds : (phase′ : ℕ) → phase ≡ 1 → hand < n + 2 → (phase′ ≡ 2 → pos ≡ 0) → (phase′ ≡ 3 → len ≡ 0) → 2
-      ≤ phase′ → phase′ ≤ 3
+  pub look-finds : (phase′ : ℕ) → phase ≡ 1 → hand < n + 2 → (phase′ ≡ 2 → pos ≡ 0)
+      → (phase′ ≡ 3 → len ≡ 0) → 2 ≤ phase′ → phase′ ≤ 3
       → WriterSteps n (suc looks) (suc made) phase′ hand len pos new seen
   look-finds phase′ e l z z′ lo hi =
       record {
@@ -148,7 +152,8 @@ module _ {n looks made phase hand len pos new seen : ℕ}
         told = λ x. absurd (omega arith);
       }
 
-  pub publish-step : (new′ : ℕ) → phase ≡ 6 → len ≡ new′ → WriterSteps n looks (suc made) 7 hand len pos new′ looks
+  pub publish-step : (new′ : ℕ) → phase ≡ 6 → len ≡ new′
+      → WriterSteps n looks (suc made) 7 hand len pos new′ looks
   publish-step new′ e d =
       record {
         scanned = λ x. absurd (omega arith);

@@ -18,7 +18,8 @@ sum-same zero f g h = refl
 sum-same (suc n) f g h = omega (arith, sum-same n f g (λ i l. h i (omega arith)), h n (omega arith))
 
 -- two functions that differ at r only
-pub sum-one : (n : ℕ) (f g : ℕ → ℕ) (r : ℕ) → r < n → ((i : ℕ) → i ≢ r → f i ≡ g i) → sum n f + g r ≡ sum n g + f r
+pub sum-one : (n : ℕ) (f g : ℕ → ℕ) (r : ℕ) → r < n → ((i : ℕ) → i ≢ r → f i ≡ g i)
+    → sum n f + g r ≡ sum n g + f r
 unfolding sum
 sum-one zero f g r l h = omega arith
 sum-one (suc n) f g r l h = go (λ k. sum-one n f g r k h) (ℕ-discrete n r)
@@ -56,7 +57,8 @@ unfolding sum
 sum-ones zero = refl
 sum-ones (suc n) = omega (arith, sum-ones n)
 
-pub sum-swap : (n k : ℕ) (f : ℕ → ℕ → ℕ) → sum n (λ i. sum k (λ j. f i j)) ≡ sum k (λ j. sum n (λ i. f i j))
+pub sum-swap : (n k : ℕ) (f : ℕ → ℕ → ℕ)
+    → sum n (λ i. sum k (λ j. f i j)) ≡ sum k (λ j. sum n (λ i. f i j))
 unfolding sum
 sum-swap zero k f = sym (sum-zero k)
 sum-swap (suc n) k f = omega (arith, sum-swap n k f, sum-add k (λ j. sum n (λ i. f i j)) (λ j. f n j))
@@ -67,15 +69,16 @@ unfolding sum
 sum-hole zero f h = absurd (omega arith)
 sum-hole (suc n) f h = go (λ k. sum-hole n f k) (ℕ-discrete (f n) 0)
   where
-    go : (sum n f < n → (i : ℕ) × (i < n) × (f i ≡ 0)) → Dec (f n ≡ 0) → (i : ℕ) × (i < suc n) × (f i ≡ 0)
+    go : (sum n f < n → (i : ℕ) × (i < n) × (f i ≡ 0)) → Dec (f n ≡ 0)
+        → (i : ℕ) × (i < suc n) × (f i ≡ 0)
     go rest (yes e) = (n, omega arith, e)
     go rest (no d) =
         let (i, l, e) = rest (omega arith) in
         (i, omega arith, e)
 
 -- n readers that are bound to one slot each at most leave one of n + 2 slots unbound beside slot i
-pub spare : (n i : ℕ) (bound : ℕ → ℕ) → i < n + 2 → sum (n + 2) bound ≤ n → (s : ℕ) × (s < n + 2) × (s ≢ i)
-    × (bound s ≡ 0)
+pub spare : (n i : ℕ) (bound : ℕ → ℕ) → i < n + 2 → sum (n + 2) bound ≤ n
+    → (s : ℕ) × (s < n + 2) × (s ≢ i) × (bound s ≡ 0)
 spare n i bound l few =
     found (sum-hole (n + 2) taken (omega (arith, sum-one (n + 2) taken bound i l elsewhere, hit i 1 (bound i))))
   where

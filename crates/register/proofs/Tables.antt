@@ -32,7 +32,8 @@ pub row-within : (w n r k : ℕ) → k < w → r < n → r * w + k < n * w
 row-within w n r k h l = omega (arith, mul-le-mul-right w l)
 
 -- one row: the last field has many words, the others one
-fields-apart : (t f g i j : ℕ) → f ≤ t → g ≤ t → (f ≢ t → i ≡ 0) → (g ≢ t → j ≡ 0) → f + i ≡ g + j → (f ≡ g) × (i ≡ j)
+fields-apart : (t f g i j : ℕ) → f ≤ t → g ≤ t → (f ≢ t → i ≡ 0) → (g ≢ t → j ≡ 0)
+    → f + i ≡ g + j → (f ≡ g) × (i ≡ j)
 fields-apart t f g i j h k s u e = go (ℕ-discrete f t) (ℕ-discrete g t)
   where
     go : Dec (f ≡ t) → Dec (g ≡ t) → (f ≡ g) × (i ≡ j)
@@ -79,7 +80,8 @@ module _ (t : Table) where
           }
 
   pub has-it : (p : Place) → Has p → has t p ≡ true
-  has-it p h = rw (ltb-below _ _ (h .part), ltb-below _ _ (h .row)) (go (ℕ-discrete (p .field) (t .singles (p .part))))
+  has-it p h =
+      rw (ltb-below _ _ (h .part), ltb-below _ _ (h .row)) (go (ℕ-discrete (p .field) (t .singles (p .part))))
     where
       go : Dec (p .field ≡ t .singles (p .part))
           → cond (eqb (p .field) (t .singles (p .part))) (ltb (p .column) (t .last-words (p .part)))
@@ -184,14 +186,16 @@ module _ (t : Table) where
   length-store a (s ∷ l) =
       length-store (set a (address t (s .place)) (s .value)) l ∙ length-set a (address t (s .place)) (s .value)
 
-  pub store-untouched : (a : List ℕ) (l : List Store) (i : ℕ) → Untouched t i l → getD (store t a l) i 0 ≡ getD a i 0
+  pub store-untouched : (a : List ℕ) (l : List Store) (i : ℕ) → Untouched t i l
+      → getD (store t a l) i 0 ≡ getD a i 0
   store-untouched a [] i v = refl
   store-untouched a (s ∷ l) i (also d v) =
       store-untouched (set a (address t (s .place)) (s .value)) l i v
       ∙ getD-set-other a (address t (s .place)) i (s .value) 0 (λ e. d (sym e))
 
 -- a part of a list of words, word by word
-pub words-row : (a : List ℕ) (i k : ℕ) → i + k ≤ length a → words-from a i k ≡ row k (λ j. getD a (i + j) 0)
+pub words-row : (a : List ℕ) (i k : ℕ) → i + k ≤ length a
+    → words-from a i k ≡ row k (λ j. getD a (i + j) 0)
 words-row a i zero h = refl
 words-row a i (suc k) h =
     ap (take (suc k)) (drop-cons a i 0 (omega arith))

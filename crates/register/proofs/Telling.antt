@@ -48,8 +48,8 @@ module _ (n : ℕ) (first : Record) where
     -- the invariant after a deed of process p
     told-by : {m′ : Memory} (p : ℕ) (deed : Deed) → Needs first h p deed
         → Newest n first m′ (noted total h p deed .writes)
-        → ((q : ℕ) → q < n → Reads n first m′ (noted total h p deed) q) → Writes n first m′ (noted total h p deed)
-        → Told n first m′ (noted total h p deed)
+        → ((q : ℕ) → q < n → Reads n first m′ (noted total h p deed) q)
+        → Writes n first m′ (noted total h p deed) → Told n first m′ (noted total h p deed)
     told-by p deed needs newest-one reader writer =
         record {
           sound = sound-noted first total h p deed (v .began p) t needs (v .sound);
@@ -61,7 +61,8 @@ module _ (n : ℕ) (first : Record) where
 
     -- what reader r is bound to once it finds, or binds, the current slot
     newly-bound : (r : ℕ)
-        → Reading 4 first (h .began r) (suc (h .moves)) (h .writes) 4 (m (len r)) (m (pos r)) (m (desk-write-number r))
+        → Reading 4 first (h .began r) (suc (h .moves)) (h .writes) 4 (m (len r)) (m (pos r))
+        (m (desk-write-number r))
         (λ j. m (read-record r j)) (m (size (index (m current)))) (m (slot-write-number (index (m current))))
         (λ j. m (contents (index (m current)) j))
     newly-bound r =

@@ -91,24 +91,27 @@ not-differ-and-same a b c d e x y =
     subst T (sym z ∙ e) tt
 
 -- each of a range
-pub each-of : (k i : ℕ) (test : ℕ → Bool) → T (every k i test) → (j : ℕ) → i ≤ j → j < i + k → T (test j)
+pub each-of : (k i : ℕ) (test : ℕ → Bool) → T (every k i test) → (j : ℕ) → i ≤ j → j < i + k
+    → T (test j)
 each-of zero i test t j lo hi = absurd (omega arith)
 each-of (suc k) i test t j lo hi =
     go (both (test i) (every k (suc i) test) t) (λ u l. each-of k (suc i) test u j l (omega arith)) (ℕ-discrete i j)
   where
-    go : T (test i) × T (every k (suc i) test) → (T (every k (suc i) test) → suc i ≤ j → T (test j)) → Dec (i ≡ j)
-        → T (test j)
+    go : T (test i) × T (every k (suc i) test) → (T (every k (suc i) test) → suc i ≤ j → T (test j))
+        → Dec (i ≡ j) → T (test j)
     go (x, u) rest (yes e) = subst (λ y. T (test y)) e x
     go (x, u) rest (no d) = rest u (omega arith)
 
-pub of-each : (k i : ℕ) (test : ℕ → Bool) → ((j : ℕ) → i ≤ j → j < i + k → T (test j)) → T (every k i test)
+pub of-each : (k i : ℕ) (test : ℕ → Bool) → ((j : ℕ) → i ≤ j → j < i + k → T (test j))
+    → T (every k i test)
 of-each zero i test f = tt
 of-each (suc k) i test f =
     joined (test i) (every k (suc i) test) (f i (omega arith) (omega arith))
     (of-each k (suc i) test (λ j lo hi. f j (omega arith) (omega arith)))
 
 -- what holds of each of a list still does, if it follows for one
-pub each-follows : {A : Type 0} {P Q : A → Type 0} {l : List A} → ((x : A) → P x → Q x) → Each P l → Each Q l
+pub each-follows : {A : Type 0} {P Q : A → Type 0} {l : List A} → ((x : A) → P x → Q x) → Each P l
+    → Each Q l
 each-follows f none = none
 each-follows f (also {x = x} b rest) = also (f x b) (each-follows f rest)
 
@@ -175,7 +178,8 @@ at-number P p i zero (x ∷ l) d e (next g s) f = g (omega arith)
 at-number P p i (suc j) (x ∷ l) d e (next g s) f = at-number P p (suc i) j l d (omega arith) s (λ h. f (omega arith))
 
 -- what holds at r, and at every other number below n
-pub at-each : {n : ℕ} (P : ℕ → Type 0) (r : ℕ) → P r → ((q : ℕ) → q < n → q ≢ r → P q) → (q : ℕ) → q < n → P q
+pub at-each : {n : ℕ} (P : ℕ → Type 0) (r : ℕ) → P r → ((q : ℕ) → q < n → q ≢ r → P q)
+    → (q : ℕ) → q < n → P q
 at-each P r own others q l = go (ℕ-discrete q r)
   where
     go : Dec (q ≡ r) → P q

@@ -8,8 +8,8 @@ use lib.Dec.{T, eqb, leb, ltb, eqb→eq, leb→le, le→leb, ltb→lt, lt→ltb}
 use Rattle.register.specs.Place.{Memory}
 use Rattle.register.specs.Area.{current, index, counter, r-start, r-end, size, limit, most-writes}
 use Rattle.register.specs.Area.{phase, last, pos, len, finished}
-use Rattle.register.specs.Area.{writer-phase, last-slot, in-hand, writer-pos, writer-len, old-word, writes-ended}
-use Rattle.register.specs.Area.{all, word-sound, slot-sound, desk-sound, writer-sound}
+use Rattle.register.specs.Area.{writer-phase, last-slot, in-hand, writer-pos, writer-len, old-word}
+use Rattle.register.specs.Area.{writes-ended, all, word-sound, slot-sound, desk-sound, writer-sound}
 use Rattle.register.specs.Area.{slot-tests, desk-tests, writer-tests, memory-tests}
 use Rattle.register.specs.Demands.{Each, none, also}
 use Rattle.register.proofs.Tests.{both, joined, each-passes, all-pass}
@@ -65,7 +65,8 @@ module _ (n c : ℕ) (m : Memory) where
 -- ---- from the test
 
 pub word-of : (n w : ℕ) → T (word-sound n w) → WordWhole n w
-word-of n w t = let (a, b) = both (ltb (index w) (n + 2)) _ t in record { slot = ltb→lt _ _ a; count = leb→le _ _ b }
+word-of n w t =
+    let (a, b) = both (ltb (index w) (n + 2)) _ t in record { slot = ltb→lt _ _ a; count = leb→le _ _ b }
 
 slot-facts : (n c : ℕ) (m : Memory) (s : ℕ) → Each T (slot-tests n c m s) → Slot n c m s
 slot-facts n c m s (also a (also b (also d none))) =

@@ -7,8 +7,8 @@ use Rattle.register.specs.Area.{most-writes}
 use Rattle.register.proofs.Whole.{WordWhole, WriterWhole}
 
 module _ {n c phase last hand pos len old ended : ℕ} (v : WriterWhole n c phase last hand pos len old ended) where
-  pub further : (k pos′ old′ : ℕ) → phase ≢ 0 → 3 ≤ k → k ≤ 7 → pos′ ≤ len → WordWhole n old′
-      → WriterWhole n c k last hand pos′ len old′ ended
+  pub further : (k pos′ old′ : ℕ) → phase ≢ 0 → 3 ≤ k → k ≤ 7 → pos′ ≤ len
+      → WordWhole n old′ → WriterWhole n c k last hand pos′ len old′ ended
   further k pos′ old′ busy lo hi part before =
       record {
         phases = hi;
@@ -38,7 +38,8 @@ module _ {n c phase last hand pos len old ended : ℕ} (v : WriterWhole n c phas
       }
 
   -- it looks on
-  pub scanning-on : (hand′ : ℕ) → phase ≡ 1 → hand′ < n + 2 → WriterWhole n c phase last hand′ pos len old ended
+  pub scanning-on : (hand′ : ℕ) → phase ≡ 1 → hand′ < n + 2
+      → WriterWhole n c phase last hand′ pos len old ended
   scanning-on hand′ e l =
       record {
         phases = v .phases;
@@ -53,7 +54,8 @@ module _ {n c phase last hand pos len old ended : ℕ} (v : WriterWhole n c phas
       }
 
   -- it begins
-  pub beginning : (len′ : ℕ) → len′ ≤ c → ended < most-writes → WriterWhole n c 1 last 0 0 len′ old ended
+  pub beginning : (len′ : ℕ) → len′ ≤ c → ended < most-writes
+      → WriterWhole n c 1 last 0 0 len′ old ended
   beginning len′ l more =
       record {
         phases = omega arith;

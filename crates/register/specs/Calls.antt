@@ -25,8 +25,9 @@ refused k a = record { number = k; ended = false; age = 0; area = a }
 
 abbrev pub making : ℕ → ℕ → Record → List Store
 making n c v =
-    header 0 ≔ 1 ∷ header 1 ≔ n ∷ header 2 ≔ c ∷ header 3 ≔ total (form1 n c) ∷ header 4 ≔ slots-at n c
-    ∷ header 5 ≔ desks-at n c ∷ header 6 ≔ writer-at n c ∷ current ≔ n ∷ size 0 ≔ length v ∷ copied (contents 0) 0 v
+    header 0 ≔ 1 ∷ header 1 ≔ n ∷ header 2 ≔ c ∷ header 3 ≔ total (form1 n c)
+    ∷ header 4 ≔ slots-at n c ∷ header 5 ≔ desks-at n c ∷ header 6 ≔ writer-at n c
+    ∷ current ≔ n ∷ size 0 ≔ length v ∷ copied (contents 0) 0 v
 
 -- the stores of making on words that are all 0
 abbrev pub fresh : ℕ → ℕ → Record → List ℕ
@@ -79,7 +80,8 @@ stepped a p = answered a (step p)
 -- whether it is the reader's: the area is undamaged, the reader exists, is idle and has finished
 abbrev pub own-tests : List ℕ → ℕ → List Bool
 own-tests a r =
-    is-area a ∷ undamaged a ∷ ltb r (readers a) ∷ eqb (memory a (phase r)) 0 ∷ eqb (memory a (finished r)) 1 ∷ []
+    is-area a ∷ undamaged a
+    ∷ ltb r (readers a) ∷ eqb (memory a (phase r)) 0 ∷ eqb (memory a (finished r)) 1 ∷ []
 
 unfoldable pub is-own : List ℕ → ℕ → Bool
 is-own a r = all (own-tests a r)

@@ -60,8 +60,8 @@ pub record Promise (n : ℕ) (first : Record) (all-moves : ℕ) (h : History) : 
   pub reads : Each (λ x. x .steps ≤ length (x .gets .shows) + 4) (h .reads)
   -- a write takes looks + L + 5 steps, a read L + 2 or L + 4
   pub write-steps : Each (λ w. w .end < all-moves → w .steps ≡ w .looks + length (w .gives) + 5) (h .writes)
-  pub read-steps : Each (λ x. (x .steps ≡ length (x .gets .shows) + 2) ⊎ (x .steps ≡ length (x .gets .shows) + 4))
-      (h .reads)
+  pub read-steps : Each
+      (λ x. (x .steps ≡ length (x .gets .shows) + 2) ⊎ (x .steps ≡ length (x .gets .shows) + 4)) (h .reads)
   -- each finished read's record is the reader's own to show
   pub own : Each (λ x. x .gets .own ≡ true) (h .reads)
   -- its age is how many writes later than the one it read had ended
@@ -127,7 +127,8 @@ pub record Intact (a : List ℕ) (x : Move) : Type 0 where
       → (i : ℕ) → Untouched (table a) i stores → getD (answered a x .area) i 0 ≡ getD a i 0
   -- its process is in an operation from the begin to the answer "ended"; no other process is moved
   pub its-own : busy (answered a x .area) (mover (readers a) x) ≡ not (answered a x .ended)
-  pub of-others : (p : ℕ) → p ≤ readers a → p ≢ mover (readers a) x → busy (answered a x .area) p ≡ busy a p
+  pub of-others : (p : ℕ) → p ≤ readers a → p ≢ mover (readers a) x
+      → busy (answered a x .area) p ≡ busy a p
   -- and what showing gives of another reader stays
   pub shows : (r : ℕ) (default : Record) → r < readers a → r ≢ mover (readers a) x
       → shown (answered a x .area) r default ≡ shown a r default

@@ -39,7 +39,8 @@ binds m r = current ≔ suc (m current) ∷ last r ≔ index (suc (m current)) �
 -- 4: take size and write number of slot last; pos 0. Size 0: the read ends, otherwise phase 5
 abbrev pub takes : Memory → ℕ → List Store
 takes m r =
-    len r ≔ m (size (m (last r))) ∷ desk-write-number r ≔ m (slot-write-number (m (last r))) ∷ pos r ≔ 0 ∷ []
+    len r ≔ m (size (m (last r)))
+    ∷ desk-write-number r ≔ m (slot-write-number (m (last r))) ∷ pos r ≔ 0 ∷ []
 
 -- 5: copy the word at pos from slot last; add 1 to pos. At len the read ends
 abbrev pub copies : Memory → ℕ → List Store
@@ -55,7 +56,8 @@ finishes r = finished r ≔ 1 ∷ phase r ≔ 0 ∷ []
 -- the record, and the desk's other words; words past len stay
 abbrev pub begins-write : Record → List Store
 begins-write v =
-    copied write-record 0 v ++ (writer-len ≔ length v ∷ in-hand ≔ 0 ∷ writer-pos ≔ 0 ∷ writer-phase ≔ 1 ∷ [])
+    copied write-record 0 v
+    ++ (writer-len ≔ length v ∷ in-hand ≔ 0 ∷ writer-pos ≔ 0 ∷ writer-phase ≔ 1 ∷ [])
 
 -- 1 (W1): the slot in hand is free if it is not last slot and its r_start equals its r_end
 abbrev pub free : Memory → Bool
@@ -78,7 +80,8 @@ fills m =
 -- 3: write number becomes writes ended + 1, size becomes len; in one step, so their order is free
 abbrev pub sizes : Memory → List Store
 sizes m =
-    slot-write-number (m in-hand) ≔ suc (m writes-ended) ∷ size (m in-hand) ≔ m writer-len ∷ writer-phase ≔ 4 ∷ []
+    slot-write-number (m in-hand) ≔ suc (m writes-ended)
+    ∷ size (m in-hand) ≔ m writer-len ∷ writer-phase ≔ 4 ∷ []
 
 -- 4: r_start becomes 0
 abbrev pub clears-start : Memory → List Store
@@ -96,8 +99,8 @@ publishes m = old-word ≔ m current ∷ current ≔ m in-hand * 4294967296 ∷ 
 -- grows by 1; the write ends
 abbrev pub freezes : Memory → List Store
 freezes m =
-    r-start (index (m old-word)) ≔ counter (m old-word) ∷ last-slot ≔ m in-hand ∷ writes-ended ≔ suc (m writes-ended)
-    ∷ writer-phase ≔ 0 ∷ []
+    r-start (index (m old-word)) ≔ counter (m old-word) ∷ last-slot ≔ m in-hand
+    ∷ writes-ended ≔ suc (m writes-ended) ∷ writer-phase ≔ 0 ∷ []
 
 -- ---- the plans, with n readers
 
@@ -137,7 +140,8 @@ module _ (n : ℕ) (m : Memory) where
   -- one step of reader r
   unfoldable pub reader-step : ℕ → Plan
   reader-step r =
-      at-phase (m (phase r)) (refuse 6 ∷ reader-1 r ∷ reader-2 r ∷ reader-3 r ∷ reader-4 r ∷ reader-5 r ∷ [])
+      at-phase (m (phase r))
+      (refuse 6 ∷ reader-1 r ∷ reader-2 r ∷ reader-3 r ∷ reader-4 r ∷ reader-5 r ∷ [])
 
   -- the writer in phase 1
   abbrev pub writer-1 : Plan

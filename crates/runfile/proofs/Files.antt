@@ -100,7 +100,8 @@ module _ (b : List ℕ) (n c : ℕ) (the-n : n ≡ readers b) (the-c : c ≡ cap
   pub many-words : 32 < c → false ≡ all (size-tests b)
   many-words h = fails (size-tests b) 3 (lt-leb (capacity b) 32 (omega arith))
 
-  pub sizes-end : (s : ℕ) → s ≡ starting-length b → 1 ≤ n → n ≤ 8 → 1 ≤ c → c ≤ 32 → leb s c ≡ all (size-tests b)
+  pub sizes-end : (s : ℕ) → s ≡ starting-length b → 1 ≤ n → n ≤ 8 → 1 ≤ c → c ≤ 32
+      → leb s c ≡ all (size-tests b)
   sizes-end s the-s n1 n8 c1 c32 =
       let same : leb s c ≡ leb (starting-length b) (capacity b) = rw (the-s, the-c) in
       same
@@ -126,8 +127,9 @@ module _ (b : List ℕ) (m v : ℕ) (the-m : m ≡ moves b) (the-v : v ≡ value
   pub values-misplaced : (x : ℕ) → x ≡ values-at b → (x ≡ 28 + 4 * m → ⊥) → false ≡ all (part-tests b)
   values-misplaced x e d = fails (part-tests b) 4 (ne-eqb (values-at b) (28 + 4 * moves b) (λ z. d (omega arith)))
 
-  pub parts-end : (x s y : ℕ) → x ≡ moves-at b → s ≡ starting-length b → y ≡ values-at b → m ≤ 4000 → x ≡ 28
-      → v ≤ 1000 → s ≤ v → y ≡ 28 + 4 * m → eqb (length b) (28 + 4 * m + 8 * v) ≡ all (part-tests b)
+  pub parts-end : (x s y : ℕ) → x ≡ moves-at b → s ≡ starting-length b → y ≡ values-at b → m ≤ 4000
+      → x ≡ 28 → v ≤ 1000 → s ≤ v → y ≡ 28 + 4 * m
+      → eqb (length b) (28 + 4 * m + 8 * v) ≡ all (part-tests b)
   parts-end x s y the-x the-s the-y few placed some recorded behind =
       let last = eqb (length b) (28 + 4 * moves b + 8 * values b) in
       let same : eqb (length b) (28 + 4 * m + 8 * v) ≡ last = rw (the-m, the-v) in
@@ -150,6 +152,6 @@ module _ (b : List ℕ) where
   pub sizes-fail : (r : Bool) → 28 ≤ length b → r ≡ all (size-tests b) → r ≡ false → r ≡ is-run-file b
   sizes-fail r h e f = f ∙ sym (rw (in-three, le-leb 28 (length b) h, ← e, f))
 
-  pub parts-decide : (s r : Bool) → 28 ≤ length b → s ≡ all (size-tests b) → s ≡ true → r ≡ all (part-tests b)
-      → r ≡ is-run-file b
+  pub parts-decide : (s r : Bool) → 28 ≤ length b → s ≡ all (size-tests b) → s ≡ true
+      → r ≡ all (part-tests b) → r ≡ is-run-file b
   parts-decide s r h e t d = d ∙ sym (rw (in-three, le-leb 28 (length b) h, ← e, t))

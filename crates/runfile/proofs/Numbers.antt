@@ -7,7 +7,8 @@ use native.Mathlib.Omega.{arith}
 use Rattle.runfile.specs.Bytes.{number-at}
 
 -- the lowest j bytes, and the k bytes behind them
-parts : (j k : ℕ) (b : List ℕ) (i : ℕ) → number-at (j + k) b i ≡ number-at j b i + 256 ^ j * number-at k b (i + j)
+parts : (j k : ℕ) (b : List ℕ) (i : ℕ)
+    → number-at (j + k) b i ≡ number-at j b i + 256 ^ j * number-at k b (i + j)
 parts zero k b i = omega (arith, ap (λ l. number-at l b i) (zero-add k), ap (number-at k b) (add-zero i))
 parts (suc j) k b i =
     let longer : number-at (suc j + k) b i ≡ number-at (suc (j + k)) b i = ap (λ l. number-at l b i) (suc-add j k) in

@@ -25,12 +25,14 @@ module _ (p : Layout) (a : List ℕ) {hand : ℕ} (hand-is : hand ≡ memory-of 
   -- ---- step 1
 
   -- the last slot is not free
-  pub last-taken : {last : ℕ} → last ≡ memory-of p a last-slot → hand ≡ last → false ≡ free (memory-of p a)
+  pub last-taken : {last : ℕ} → last ≡ memory-of p a last-slot → hand ≡ last
+      → false ≡ free (memory-of p a)
   last-taken last-is same = rw (eqb-equal _ _ (sym hand-is ∙ same ∙ last-is))
 
   -- another is where its counters are equal
-  pub other-free : {last started gone : ℕ} → last ≡ memory-of p a last-slot → started ≡ memory-of p a (r-start hand)
-      → gone ≡ memory-of p a (r-end hand) → hand ≢ last → eqb started gone ≡ free (memory-of p a)
+  pub other-free : {last started gone : ℕ} → last ≡ memory-of p a last-slot
+      → started ≡ memory-of p a (r-start hand) → gone ≡ memory-of p a (r-end hand) → hand ≢ last
+      → eqb started gone ≡ free (memory-of p a)
   other-free last-is started-is gone-is other =
       rw (eqb-other _ _ (λ same. other (hand-is ∙ same ∙ sym last-is)), started-is, gone-is, hand-is)
 
@@ -41,14 +43,15 @@ module _ (p : Layout) (a : List ℕ) {hand : ℕ} (hand-is : hand ≡ memory-of 
   picked len-is free-is found phase-is first answer =
       rw (sym free-is ∙ found) (accepts p (p .n) a (picks (memory-of p a)) (rw (first, phase-is, len-is)) answer)
 
-  pub none-free : {x : Returned} {is-free : Bool} → is-free ≡ free (memory-of p a) → is-free ≡ false → hand ≡ p .n + 1
-      → x ≡ returned 8 false → whole x a ≡ carried p (p .n) a (writer-1 (p .n) (memory-of p a))
+  pub none-free : {x : Returned} {is-free : Bool} → is-free ≡ free (memory-of p a) → is-free ≡ false
+      → hand ≡ p .n + 1 → x ≡ returned 8 false
+      → whole x a ≡ carried p (p .n) a (writer-1 (p .n) (memory-of p a))
   none-free free-is taken end answer =
       rw (sym free-is ∙ taken, eqb-equal _ _ (sym hand-is ∙ end ∙ add-one (p .n))) (refuses p (p .n) a answer)
 
-  pub passed-by : {x : Returned} {is-free : Bool} {b : List ℕ} → is-free ≡ free (memory-of p a) → is-free ≡ false
-      → hand ≢ p .n + 1 → b ≡ stored p a (in-hand ≔ (hand + 1)) → x ≡ returned 0 false
-      → whole x b ≡ carried p (p .n) a (writer-1 (p .n) (memory-of p a))
+  pub passed-by : {x : Returned} {is-free : Bool} {b : List ℕ} → is-free ≡ free (memory-of p a)
+      → is-free ≡ false → hand ≢ p .n + 1 → b ≡ stored p a (in-hand ≔ (hand + 1))
+      → x ≡ returned 0 false → whole x b ≡ carried p (p .n) a (writer-1 (p .n) (memory-of p a))
   passed-by free-is taken more first answer =
       rw (sym free-is ∙ taken, eqb-other _ _ (λ end. more (hand-is ∙ end ∙ sym (add-one (p .n)))))
       (accepts p (p .n) a (passes (memory-of p a)) (rw (first, add-one, hand-is)) answer)
@@ -56,10 +59,10 @@ module _ (p : Layout) (a : List ℕ) {hand : ℕ} (hand-is : hand ≡ memory-of 
   -- ---- steps 2 to 7
 
   pub filled : {x : Returned} {pos len word phase : ℕ} {b d e : List ℕ} → pos ≡ memory-of p a writer-pos
-      → len ≡ memory-of p a writer-len → word ≡ memory-of p a (write-record pos) → phase ≡ cond (eqb (pos + 1) len) 3 2
-      → b ≡ stored p a (contents hand pos ≔ word) → d ≡ stored p b (writer-pos ≔ (pos + 1))
-      → e ≡ stored p d (writer-phase ≔ phase) → x ≡ returned 0 false
-      → whole x e ≡ carried p (p .n) a (accept (fills (memory-of p a)) false)
+      → len ≡ memory-of p a writer-len → word ≡ memory-of p a (write-record pos)
+      → phase ≡ cond (eqb (pos + 1) len) 3 2 → b ≡ stored p a (contents hand pos ≔ word)
+      → d ≡ stored p b (writer-pos ≔ (pos + 1)) → e ≡ stored p d (writer-phase ≔ phase)
+      → x ≡ returned 0 false → whole x e ≡ carried p (p .n) a (accept (fills (memory-of p a)) false)
   filled pos-is len-is word-is phase-is first second third =
       accepts p (p .n) a (fills (memory-of p a))
       (rw (third, second, first, phase-is, word-is, len-is, add-one, pos-is, hand-is))
@@ -88,9 +91,11 @@ module _ (p : Layout) (a : List ℕ) {hand : ℕ} (hand-is : hand ≡ memory-of 
   published word-is first second third =
       accepts p (p .n) a (publishes (memory-of p a)) (rw (third, second, first, word-is, hand-is))
 
-  pub frozen : {old ended : ℕ} {b d e f : List ℕ} → old ≡ memory-of p a old-word → ended ≡ memory-of p a writes-ended
-      → b ≡ stored p a (r-start (old / 4294967296) ≔ (old % 4294967296)) → d ≡ stored p b (last-slot ≔ hand)
-      → e ≡ stored p d (writes-ended ≔ (ended + 1)) → f ≡ stored p e (writer-phase ≔ 0)
+  pub frozen : {old ended : ℕ} {b d e f : List ℕ} → old ≡ memory-of p a old-word
+      → ended ≡ memory-of p a writes-ended
+      → b ≡ stored p a (r-start (old / 4294967296) ≔ (old % 4294967296))
+      → d ≡ stored p b (last-slot ≔ hand) → e ≡ stored p d (writes-ended ≔ (ended + 1))
+      → f ≡ stored p e (writer-phase ≔ 0)
       → whole (returned 0 true) f ≡ carried p (p .n) a (accept (freezes (memory-of p a)) true)
   frozen {ended = ended} old-is ended-is first second third fourth =
       ends-write p a (freezes (memory-of p a))
@@ -127,6 +132,7 @@ not-past-seven : (k : ℕ) → k ≤ 7 → 4 ≤ k → k ≢ 4 → k ≢ 5 → k
 not-past-seven k h l d4 d5 d6 d7 = omega arith
 
 pub no-other-phase : (k : ℕ) → k ≤ 7
-    → (((((((Unit {0} × k ≢ 0) × k ≢ 1) × k ≢ 2) × k ≢ 3) × k ≢ 4) × k ≢ 5) × k ≢ 6) × k ≢ 7 → ⊥
+    → (((((((Unit {0} × k ≢ 0) × k ≢ 1) × k ≢ 2) × k ≢ 3) × k ≢ 4) × k ≢ 5) × k ≢ 6) × k ≢ 7
+    → ⊥
 no-other-phase k h ((((((((u, d0), d1), d2), d3), d4), d5), d6), d7) =
     not-past-seven k h (past-three k d0 d1 d2 d3) d4 d5 d6 d7

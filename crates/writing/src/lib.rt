@@ -10,14 +10,12 @@ ghost use mathlib.Core.Bool.{true, false, cond};
 ghost use Prim.Native.Nat.{_≤_};
 ghost use lib.ListN.{length};
 ghost use Rattle.register.specs.Place.{copied};
-ghost use Rattle.register.specs.Table.{store};
-ghost use Rattle.register.specs.Area.{form1, writer-phase, write-record};
+ghost use Rattle.register.specs.Area.{writer-phase, write-record};
 ghost use Rattle.register.specs.Steps.{accept, free, fills, sizes, clears-start, clears-end, publishes, freezes};
 ghost use Rattle.register.specs.Steps.{writer-1, writer-step, write-plan};
 ghost use Rattle.register.proofs.Moves.{sets-out};
-ghost use Rattle.area.specs.Words.{Sized};
+ghost use Rattle.area.specs.Words.{Sized, memory-of, after};
 ghost use Rattle.answer.specs.Carried.{whole, Ready, carried};
-ghost use Rattle.area.specs.Words.{memory-of};
 
 // The phase of a copy: 3 where it is done, else 2.
 fn copying(done: bool) -> u64
@@ -42,7 +40,7 @@ fn is_free(area: &[u64], p: Layout) -> bool
 }
 
 // Step 1 (W1): a free slot in hand is picked, another is passed; there is none past the last.
-pub fn scans(area: &mut [u64], p: Layout) -> Answer
+fn scans(area: &mut [u64], p: Layout) -> Answer
     requires { ⌜ Ready p (now area) ⌝ }
     ensures { λ x.
         ⌜ whole x (now (area .exit))
@@ -62,7 +60,7 @@ pub fn scans(area: &mut [u64], p: Layout) -> Answer
 }
 
 // Step 2: the word at pos is copied from the desk to the slot in hand.
-pub fn fills(area: &mut [u64], p: Layout) -> Answer
+fn fills(area: &mut [u64], p: Layout) -> Answer
     requires { ⌜ Ready p (now area) × (memory-of p (now area) writer-phase ≡ 2) ⌝ }
     ensures { λ x.
         ⌜ whole x (now (area .exit))
@@ -79,7 +77,7 @@ pub fn fills(area: &mut [u64], p: Layout) -> Answer
 }
 
 // Step 3: the slot in hand gets its write number and its size.
-pub fn sizes(area: &mut [u64], p: Layout) -> Answer
+fn sizes(area: &mut [u64], p: Layout) -> Answer
     requires { ⌜ Ready p (now area) × (memory-of p (now area) writer-phase ≢ 0) ⌝ }
     ensures { λ x.
         ⌜ whole x (now (area .exit))
@@ -95,7 +93,7 @@ pub fn sizes(area: &mut [u64], p: Layout) -> Answer
 }
 
 // Step 4: r_start of the slot in hand becomes 0.
-pub fn clears_start(area: &mut [u64], p: Layout) -> Answer
+fn clears_start(area: &mut [u64], p: Layout) -> Answer
     requires { ⌜ Ready p (now area) ⌝ }
     ensures { λ x.
         ⌜ whole x (now (area .exit))
@@ -108,7 +106,7 @@ pub fn clears_start(area: &mut [u64], p: Layout) -> Answer
 }
 
 // Step 5: r_end of the slot in hand becomes 0.
-pub fn clears_end(area: &mut [u64], p: Layout) -> Answer
+fn clears_end(area: &mut [u64], p: Layout) -> Answer
     requires { ⌜ Ready p (now area) ⌝ }
     ensures { λ x.
         ⌜ whole x (now (area .exit))
@@ -121,7 +119,7 @@ pub fn clears_end(area: &mut [u64], p: Layout) -> Answer
 }
 
 // Step 6 (W2): the current word becomes the old word, and the slot in hand the current one.
-pub fn publishes(area: &mut [u64], p: Layout) -> Answer
+fn publishes(area: &mut [u64], p: Layout) -> Answer
     requires { ⌜ Ready p (now area) ⌝ }
     ensures { λ x.
         ⌜ whole x (now (area .exit))
@@ -136,7 +134,7 @@ pub fn publishes(area: &mut [u64], p: Layout) -> Answer
 }
 
 // Step 7 (W3): r_start of the old slot becomes the old word's counter, and the write ends.
-pub fn freezes(area: &mut [u64], p: Layout) -> Answer
+fn freezes(area: &mut [u64], p: Layout) -> Answer
     requires { ⌜ Ready p (now area) × (memory-of p (now area) writer-phase ≢ 0) ⌝ }
     ensures { λ x.
         ⌜ whole x (now (area .exit))
@@ -183,7 +181,7 @@ fn copies_in(area: &mut [u64], p: Layout, words: &[u64])
     requires { ⌜ Sized p (now area) × (length (now words) ≤ p .c) ⌝ }
     ensures { λ _.
         ⌜ now (area .exit)
-        ≡ store (form1 (p .n) (p .c)) (now (area .entry)) (copied write-record 0 (now (words .entry))) ⌝ }
+        ≡ after p (now (area .entry)) (copied write-record 0 (now (words .entry))) ⌝ }
 {
     let mut i = 0;
     while i < words.len() {
@@ -196,7 +194,7 @@ fn copies_in(area: &mut [u64], p: Layout, words: &[u64])
 fn sets_out(area: &mut [u64], p: Layout, words: &[u64])
     requires { ⌜ Sized p (now area) ⌝ }
     ensures { λ _.
-        ⌜ now (area .exit) ≡ store (form1 (p .n) (p .c)) (now (area .entry)) (sets-out (now (words .entry))) ⌝ }
+        ⌜ now (area .exit) ≡ after p (now (area .entry)) (sets-out (now (words .entry))) ⌝ }
 {
     stores::set_writer_field(area, p, Layout::WRITER_LEN, words.len() as u64);
     stores::set_writer_field(area, p, Layout::IN_HAND, 0);

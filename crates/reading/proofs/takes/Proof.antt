@@ -2,8 +2,7 @@
 use borrow.Author.Needs.{needs}
 use mathlib.Core.Path.{_≡_}
 use Rattle.register.specs.Steps.{takes}
-use Rattle.area.specs.Words.{memory-of}
-use Rattle.reading.proofs.Storing.{after}
+use Rattle.area.specs.Words.{memory-of, after}
 use Rattle.reading.proofs.Reading.{bound-slot, taken, took-none, took-some}
 use Rattle.reading.proofs.takes.Statement.{statement}
 use Rattle.reading.proofs.takes.Tie as tie

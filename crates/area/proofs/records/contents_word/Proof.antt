@@ -1,29 +1,22 @@
+-- `records::contents_word` meets its contract: what is read is that word of the slot's contents. Assumes nothing.
 use borrow.Author.Needs.{needs}
 use native.Mathlib.Omega.{arith}
 use Rattle.area.proofs.Words.{contents-is}
 use Rattle.area.proofs.records.contents_word.Statement.{statement}
 use Rattle.area.proofs.records.contents_word.Tie as tie
-use Rattle.area.proofs.records.contents_word.Reads as reads
-use Rattle.area.proofs.records.contents_word.Lts as lts
-use Rattle.area.proofs.Layout.slot.Reads as slot-reads
 
--- src/records.rt:22:23
 add-slot : tie.Need-add-slot
 add-slot c = search needs
 
--- src/records.rt:22:9
 slot-requires : tie.Need-slot-requires
 slot-requires c κs = search needs
 
--- src/records.rt:23:5
 mul-result : tie.Need-mul-result
 mul-result c = search needs
 
--- src/records.rt:23:5
 shared-slice-read-result : tie.Need-shared-slice-read-result
 shared-slice-read-result c = search needs
 
--- src/records.rt:18:1
 returns : tie.Need-returns
 returns c =
     let b = c .before .before .before .args in

@@ -1,32 +1,24 @@
+-- `stores::set_write_record` meets its contract: what is set is that word of the writer's record. Assumes nothing.
 use borrow.Author.Needs.{needs}
 use Rattle.area.proofs.Words.{write-record-set}
 use Rattle.area.proofs.stores.set_write_record.Statement.{statement}
 use Rattle.area.proofs.stores.set_write_record.Tie as tie
-use Rattle.area.proofs.stores.set_write_record.Reads as reads
-use Rattle.area.proofs.stores.set_write_record.Lts as lts
-use Rattle.area.proofs.Layout.own.Reads as own-reads
 
--- src/stores.rt:70:19
 add-own : tie.Need-add-own
 add-own c = search needs
 
--- src/stores.rt:70:9
 own-requires : tie.Need-own-requires
 own-requires c κs = search needs
 
--- src/stores.rt:71:5
 mul-area : tie.Need-mul-area
 mul-area c = search needs
 
--- src/stores.rt:71:5
 slice-write-area : tie.Need-slice-write-area
 slice-write-area c = search needs
 
--- src/stores.rt:66:1
 same-length : tie.Need-same-length
 same-length c = search needs
 
--- src/stores.rt:66:1
 returns : tie.Need-returns
 returns c =
     let b = c .before .before .args in

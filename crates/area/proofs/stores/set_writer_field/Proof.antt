@@ -1,28 +1,21 @@
+-- `stores::set_writer_field` meets its contract: what is set is that field of the writer's desk. Assumes nothing.
 use borrow.Author.Needs.{needs}
 use Rattle.area.proofs.Words.{writer-field-set}
 use Rattle.area.proofs.stores.set_writer_field.Statement.{statement}
 use Rattle.area.proofs.stores.set_writer_field.Tie as tie
-use Rattle.area.proofs.stores.set_writer_field.Reads as reads
-use Rattle.area.proofs.stores.set_writer_field.Lts as lts
-use Rattle.area.proofs.Layout.own.Reads as own-reads
 
--- src/stores.rt:61:9
 own-requires : tie.Need-own-requires
 own-requires c κs = search needs
 
--- src/stores.rt:62:5
 mul-area : tie.Need-mul-area
 mul-area c = search needs
 
--- src/stores.rt:62:5
 slice-write-area : tie.Need-slice-write-area
 slice-write-area c = search needs
 
--- src/stores.rt:57:1
 same-length : tie.Need-same-length
 same-length c = search needs
 
--- src/stores.rt:57:1
 returns : tie.Need-returns
 returns c =
     let b = c .before .before .args in

@@ -3,7 +3,7 @@ use borrow.Author.Needs.{needs}
 use Prim.Native.Nat.{_-_}
 use lib.ListN.{length}
 use Rattle.register.specs.Area.{contents}
-use Rattle.board.proofs.Copying.{Copying, copying-none, copying-more}
+use Rattle.answer.proofs.Copying.{Copying, copying-none, copying-more}
 use Rattle.board.proofs.Fresh.{starting-set}
 use Rattle.board.proofs.making.set_starting.Statement.{statement}
 use Rattle.board.proofs.making.set_starting.Tie as tie

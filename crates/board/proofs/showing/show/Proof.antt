@@ -59,7 +59,8 @@ stayed = (
   ),
 )
 
-module _ {M : Type 1} (𝓤 : URA M) (H : Heap 𝓤) (A : Atoms 𝓤) (mem : Memory → SProp 𝓤) (run : Routine → Fun 𝓤) where
+module _ {M : Type 1} (𝓤 : URA M) (H : Heap 𝓤) (A : Atoms 𝓤) (mem : Memory → SProp 𝓤)
+    (run : Routine → Fun 𝓤) where
   -- the contract that the proof cites
   abbrev One : Contract 𝓤
   One = tripleOf 𝓤 H A one.signature (one.spec 𝓤 H A mem run)
@@ -105,7 +106,8 @@ module _ {M : Type 1} (𝓤 : URA M) (H : Heap 𝓤) (A : Atoms 𝓤) (W : Given
       ∵ join ! $ frame ! $ done !
 
   -- what is owned at entry gives what the callee asks, with the other two tokens left
-  apart : ent 𝓤 (onEntry 𝓤 H A show.signature κs qs a at) (sep 𝓤 (One 𝓤 H A mem run .pre to) (sem 𝓤 H A Toks))
+  apart : ent 𝓤 (onEntry 𝓤 H A show.signature κs qs a at)
+      (sep 𝓤 (One 𝓤 H A mem run .pre to) (sem 𝓤 H A Toks))
   apart =
       qed W
       ((‵ (flft κa qa) ⊛ ‵ (flft κb qb) ⊛ ‵ (flft κr qr) ⊛ ‵ ftrue)
@@ -121,15 +123,18 @@ module _ {M : Type 1} (𝓤 : URA M) (H : Heap 𝓤) (A : Atoms 𝓤) (W : Given
       move ! (2 ∷ 0 ∷ []) $ use2 W (raw (One 𝓤 H A mem run .pre to)) asked $ frame ! $ done !
 
   said : (r : RefT (List ℕ))
-      → ent 𝓤 (ensured 𝓤 H A one.ended (one.clauses 𝓤 H A mem run) (κr, tt) a tt r) (fact 𝓤 (now r ≡ found))
+      → ent 𝓤 (ensured 𝓤 H A one.ended (one.clauses 𝓤 H A mem run) (κr, tt) a tt r)
+      (fact 𝓤 (now r ≡ found))
   said r = exE 𝓤 _ (λ ws. snd∗ 𝓤 (sem 𝓤 H A (lasts one.ended (κr, tt) a ws)) (fact 𝓤 (now r ≡ found)))
 
   exits : (r : RefT (List ℕ)) (u : Val) → now r ≡ found
       → ent 𝓤
-      (⋆ 𝓤 H A (‵ (ShrSlice (named 2) κr u64 .own r (u ∷ [])) ∷ (‵ (flft κr qr) ⊛ ‵ ftrue) ∷ ‵ Toks ∷ []))
+      (⋆ 𝓤 H A (‵ (ShrSlice (named 2) κr u64 .own r (u ∷ [])) ∷ (‵ (flft κr qr) ⊛ ‵ ftrue)
+      ∷ ‵ Toks ∷ []))
       (Post u)
   exits r u e =
-      qed W (‵ (ShrSlice (named 2) κr u64 .own r (u ∷ [])) ∷ (‵ (flft κr qr) ⊛ ‵ ftrue) ∷ ‵ Toks ∷ [])
+      qed W (‵ (ShrSlice (named 2) κr u64 .own r (u ∷ [])) ∷ (‵ (flft κr qr) ⊛ ‵ ftrue)
+      ∷ ‵ Toks ∷ [])
       ∵ suffices ! _
       (ends-at 𝓤 H A show.ended stayed (show.clauses 𝓤 H A mem run) W ((κs, qs, (ra, (rb, tt)), a, at), tt) u r
       (tt, (tt, (tt, tt))) (tt, (tt, (tt, tt)))) $ says ! e $
@@ -171,7 +176,8 @@ module _ {M : Type 1} (𝓤 : URA M) (H : Heap 𝓤) (A : Atoms 𝓤) (W : Given
 
 module _ {M : Type 1} (𝓤 : URA M) (H : Heap 𝓤) (A : Atoms 𝓤) (W : Given 𝓤 H A) (mem : Memory → SProp 𝓤)
     (run : Routine → Fun 𝓤) where
-  show-walks : (C : Calls 𝓤 H) (Λ : Loops 𝓤 H) → FmC 𝓤 H (W .laws) C → Triple 𝓤 (C #show-one) (One 𝓤 H A mem run)
+  show-walks : (C : Calls 𝓤 H) (Λ : Loops 𝓤 H) → FmC 𝓤 H (W .laws) C
+      → Triple 𝓤 (C #show-one) (One 𝓤 H A mem run)
       → Walks 𝓤 H A show.ended stayed (WpFn 𝓤 H C Λ code.function) (show.clauses 𝓤 H A mem run)
   show-walks C Λ fm known =
       walked 𝓤 H A show.ended stayed (show.clauses 𝓤 H A mem run) (WpFn 𝓤 H C Λ code.function)
@@ -187,8 +193,9 @@ module _ {M : Type 1} (𝓤 : URA M) (H : Heap 𝓤) (A : Atoms 𝓤) (W : Given
       (walk 𝓤 H A W mem run (κs .0) (κs .1 .0) (κs .1 .1 .0) (qs .0) (qs .1 .0) (qs .1 .1 .0) (bounds .0)
       (bounds .1 .0) (a .0) (a .1 .0) (a .1 .1 .0) C Λ fm known (are .0) (are .1 .0) (are .1 .1 .0)))
 
-show-meets : {M : Type 1} (𝓤 : URA M) (H : Heap 𝓤) (A : Atoms 𝓤) (W : Given 𝓤 H A) (mem : Memory → SProp 𝓤)
-    (run : Routine → Fun 𝓤) (𝓣 : Tables 𝓤 H) → Triple 𝓤 (𝓣 .C #show-one) (One 𝓤 H A mem run)
+show-meets : {M : Type 1} (𝓤 : URA M) (H : Heap 𝓤) (A : Atoms 𝓤) (W : Given 𝓤 H A)
+    (mem : Memory → SProp 𝓤) (run : Routine → Fun 𝓤) (𝓣 : Tables 𝓤 H)
+    → Triple 𝓤 (𝓣 .C #show-one) (One 𝓤 H A mem run)
     → Meets 𝓤 H A show.signature (WpFn 𝓤 H (𝓣 .C) (𝓣 .Λ) code.function) (show.spec 𝓤 H A mem run)
 show-meets 𝓤 H A W mem run 𝓣 known =
     walk-meets 𝓤 H A show.ended stayed W (
@@ -206,7 +213,9 @@ pub show-spec : {M : Type 1} → stated.statement M
 unfolding code.routine tablesOf
 show-spec 𝓤 H 𝓜 𝓖 𝓡 =
     entered 𝓤 H (tripleOf 𝓤 H (𝓖 .A) show.signature (show.spec 𝓤 H (𝓖 .A) (𝓜 .mem) (𝓡 .run)))
-    (tables 𝓤 H 𝓜 𝓡 code.env .C) (tables 𝓤 H 𝓜 𝓡 code.env .Λ) #show code.function (code.unfolded 𝓤 H 𝓜 𝓡)
-    (show-meets 𝓤 H (𝓖 .A) (givenOf 𝓤 H 𝓜 𝓖) (𝓜 .mem) (𝓡 .run) (tablesOf 𝓤 H 𝓜 (tables 𝓤 H 𝓜 𝓡 code.env))
+    (tables 𝓤 H 𝓜 𝓡 code.env .C) (tables 𝓤 H 𝓜 𝓡 code.env .Λ) #show code.function
+    (code.unfolded 𝓤 H 𝓜 𝓡)
+    (show-meets 𝓤 H (𝓖 .A) (givenOf 𝓤 H 𝓜 𝓖) (𝓜 .mem) (𝓡 .run)
+    (tablesOf 𝓤 H 𝓜 (tables 𝓤 H 𝓜 𝓡 code.env))
     (cited 𝓤 H (One 𝓤 H (𝓖 .A) (𝓜 .mem) (𝓡 .run)) 𝓜 𝓡 code.env #show-one one-def.routine
     code.calls-board·showing·show-one (one-thm.met 𝓤 H 𝓜 𝓖 𝓡)))
