@@ -15,7 +15,8 @@ as-number : (b : Bool) → boolByte b ≡ cond b 1 0
 as-number true = refl
 as-number false = refl
 
-pub converted : (x : Returned) → record { number = x .number; ended = boolByte (x .ended); age = x .age } ≡ as-answer x
+pub converted : (x : Returned)
+    → record { number = x .number; ended = boolByte (x .ended); age = x .age } ≡ as-answer x
 converted x = ap (λ k. record { number = x .number; ended = k; age = x .age }) (as-number (x .ended))
 
 -- what a call of the board says, said of its answer in C
@@ -24,5 +25,6 @@ pub told : {d : Answer} {y : Returned} {x : BoardAnswer} {b : List ℕ} → whol
 told {b = b} e f = ap (λ z. (z, b)) f ∙ ap in-c e
 
 -- two results that meet a contract are equal: what is returned, and every word
-pub unique : (d : Answer) (x y : BoardAnswer) (a b : List ℕ) → (x, a) ≡ in-c d → (y, b) ≡ in-c d → (x ≡ y) × (a ≡ b)
+pub unique : (d : Answer) (x y : BoardAnswer) (a b : List ℕ) → (x, a) ≡ in-c d → (y, b) ≡ in-c d
+    → (x ≡ y) × (a ≡ b)
 unique d x y a b e f = (λ i. (e ∙ sym f) i .0, λ i. (e ∙ sym f) i .1)

@@ -1,4 +1,4 @@
--- `as_answer` meets its contract. Assumes nothing.
+-- `as_answer` meets its contract: the cast of `ended` is its 1 or 0. Assumes nothing.
 use borrow.Author.Needs.{needs}
 use Rattle.board_c.proofs.Told.{converted}
 use Rattle.board_c.proofs.as_answer.Statement.{statement}

@@ -1,4 +1,5 @@
--- `board_begin_write` meets its contract: it is the board's call, and its answer is the board's as C has it. Assumes nothing.
+-- `board_begin_write` meets its contract: it makes the board's call, and answers as that does.
+-- Assumes nothing.
 use borrow.Author.Needs.{needs}
 use Rattle.board_c.proofs.Told.{told}
 use Rattle.board_c.proofs.board_begin_write.Statement.{statement}

@@ -1,4 +1,4 @@
--- `board_show` meets its contract. Assumes nothing.
+-- `board_show` meets its contract: the place where the record is the reader's, or none. Assumes nothing.
 use borrow.Author.Needs.{needs}
 use mathlib.Core.Path.{_≡_}
 use mathlib.Core.Bool.{true}

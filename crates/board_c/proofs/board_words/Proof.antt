@@ -1,4 +1,4 @@
--- `board_words` meets its contract. Assumes nothing.
+-- `board_words` meets its contract: the layout's total where making takes the numbers. Assumes nothing.
 use borrow.Author.Needs.{needs}
 use Rattle.board.proofs.Fresh.{Taken, taken-of}
 use Rattle.board_c.proofs.Making.{words-none, words-total}
