@@ -34,9 +34,10 @@ pub struct BoardPlace {
 fn as_answer(x: Answer) -> BoardAnswer
     ensures { λ r. ⌜ r ≡ as-answer x ⌝ }
 {
+    let ended = x.ended as u64;
     BoardAnswer {
         number: x.number,
-        ended: x.ended as u64,
+        ended,
         age: x.age,
     }
 }

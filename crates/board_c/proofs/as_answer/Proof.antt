@@ -4,11 +4,11 @@ use Rattle.board_c.proofs.Told.{converted}
 use Rattle.board_c.proofs.as_answer.Statement.{statement}
 use Rattle.board_c.proofs.as_answer.Tie as tie
 
-cast-t2 : tie.Need-cast-t2
-cast-t2 c = search needs
+cast-ended : tie.Need-cast-ended
+cast-ended c = search needs
 
 returns : tie.Need-returns
 returns c = converted (c .before .args .x)
 
 pub as-answer-spec : {M : Type 1} → statement M
-as-answer-spec = tie.close (tie.spec cast-t2 returns)
+as-answer-spec = tie.close (tie.spec cast-ended returns)
