@@ -1,0 +1,117 @@
+// The calls of the board for C and Rust. Each takes any words, any process and any record, and asks nothing of its
+// caller but memory that is its own; each is equal to a definition of `register`, as the calls of `board` are.
+use answer::Answer;
+use area::Layout;
+use area::fields;
+use area::header;
+use board::making;
+use board::reads;
+use board::showing;
+use board::steps;
+use board::writes;
+ghost use mathlib.Core.Path.{_≡_};
+ghost use Rattle.register.specs.Calls.{made, read-begun, write-begun, stepped};
+ghost use Rattle.board_c.specs.Answers.{as-answer, in-c};
+ghost use Rattle.board_c.specs.Places.{place-of, words-of};
+
+// What a call returns: its number, 1 if an operation ended or else 0, and the age.
+#[repr(C)]
+pub struct BoardAnswer {
+    pub number: u64,
+    pub ended: u64,
+    pub age: u64,
+}
+
+// Where a reader's record stands: yes is 1, and it is the len words of the area from at on; or all three are 0.
+#[repr(C)]
+pub struct BoardPlace {
+    pub yes: u64,
+    pub at: u64,
+    pub len: u64,
+}
+
+// An answer of the board as C has it.
+fn as_answer(x: Answer) -> BoardAnswer
+    ensures { λ r. ⌜ r ≡ as-answer x ⌝ }
+{
+    let ended = x.ended as u64;
+    BoardAnswer {
+        number: x.number,
+        ended,
+        age: x.age,
+    }
+}
+
+// Makes a fresh area of the words, for n readers, records of at most c words and a starting record.
+#[no_mangle]
+pub extern "C" fn board_make(
+    area: &mut [u64],
+    form: u64,
+    n: u64,
+    c: u64,
+    first: &[u64],
+) -> BoardAnswer
+    ensures { λ x. ⌜ (x, now (area .exit)) ≡ in-c (made form n c (now (first .entry)) (now (area .entry))) ⌝ }
+{
+    as_answer(making::make(form, n, c, first, area))
+}
+
+// A reader begins a read.
+#[no_mangle]
+pub extern "C" fn board_begin_read(area: &mut [u64], reader: u64) -> BoardAnswer
+    ensures { λ x. ⌜ (x, now (area .exit)) ≡ in-c (read-begun (now (area .entry)) reader) ⌝ }
+{
+    as_answer(reads::begin_read(area, reader))
+}
+
+// The writer begins a write of a record.
+#[no_mangle]
+pub extern "C" fn board_begin_write(area: &mut [u64], words: &[u64]) -> BoardAnswer
+    ensures { λ x. ⌜ (x, now (area .exit)) ≡ in-c (write-begun (now (area .entry)) (now (words .entry))) ⌝ }
+{
+    as_answer(writes::begin_write(area, words))
+}
+
+// One step of a process: a reader below N, the writer at N.
+#[no_mangle]
+pub extern "C" fn board_step(area: &mut [u64], process: u64) -> BoardAnswer
+    ensures { λ x. ⌜ (x, now (area .exit)) ≡ in-c (stepped (now (area .entry)) process) ⌝ }
+{
+    as_answer(steps::step(area, process))
+}
+
+// Where the reader's record stands in the area, if there is one to show.
+#[no_mangle]
+pub extern "C" fn board_show(area: &[u64], reader: u64) -> BoardPlace
+    ensures { λ x. ⌜ x ≡ place-of (now (area .entry)) reader ⌝ }
+{
+    if !showing::is_own(area, reader) {
+        return BoardPlace {
+            yes: 0,
+            at: 0,
+            len: 0,
+        };
+    }
+    let p = header::layout(area);
+    let r = reader as usize;
+    let at = p.desk(r, Layout::DESK);
+    let len = fields::desk_field(area, p, r, Layout::LEN);
+    BoardPlace {
+        yes: 1,
+        at: at as u64,
+        len,
+    }
+}
+
+// The words of an area for n readers and records of at most c words, and 0 where making answers 9.
+#[no_mangle]
+pub extern "C" fn board_words(form: u64, n: u64, c: u64) -> u64
+    ensures { λ t. ⌜ t ≡ words-of form n c ⌝ }
+{
+    let known = (form == 1) & header::in_range(n, c);
+    if !known {
+        return 0;
+    }
+    let p = Layout::new(n as usize, c as usize);
+    p.total as u64
+}
