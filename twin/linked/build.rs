@@ -14,7 +14,8 @@ fn main() {
     let library = given.unwrap_or_else(|_| here.join("../target/library"));
     let archive = library.join("libboard_c.a");
     if !archive.exists() {
-        panic!("no {}: run twin/library first, or set BOARD_LIBRARY", archive.display());
+        eprintln!("no {}: run twin/library first, or set BOARD_LIBRARY", archive.display());
+        std::process::exit(1);
     }
     println!("cargo::rerun-if-changed={}", archive.display());
     println!("cargo::rustc-link-search=native={}", library.display());
