@@ -3,7 +3,7 @@
 mod counting;
 
 use linked::differ::plan::{self, Form, Found};
-use linked::differ::{Kind, Session};
+use linked::differ::Session;
 use linked::pair::Pair;
 use linked::side::{self, Side};
 use linked::{faults, trace};
@@ -132,14 +132,10 @@ fn find_faults() -> Result<(), String> {
     }
 }
 
-/// Writes the trace of every session but the one that alters each word of the largest area: that one
-/// would be many gigabytes.
 fn write_trace(form: Form, side: Side) -> Result<(), String> {
     let mut to = BufWriter::new(io::stdout().lock());
-    for session in plan::sessions(form) {
-        if (session.kind, session.n, session.c) != (Kind::Swept, 64, 256) {
-            trace::write(&session, side, &mut to).map_err(|error| error.to_string())?;
-        }
+    for session in plan::traced(form) {
+        trace::write(&session, side, &mut to).map_err(|error| error.to_string())?;
     }
     to.flush().map_err(|error| error.to_string())
 }

@@ -5,7 +5,7 @@ use super::lively::{record, start, turn};
 use super::Session;
 use crate::deed::Deed;
 use crate::pair::{Difference, Driven};
-use twin::area::Layout;
+use twin::area::{Layout, FORM};
 use twin::random::Random;
 
 /// Values at the edges of what a word may be.
@@ -27,6 +27,7 @@ fn every_call(random: &mut Random, n: u64, c: u64) -> Vec<Deed> {
     for length in [0, 1, c, c + 1] {
         calls.push(Deed::Write(record(random, length)));
     }
+    calls.push(Deed::Make { form: FORM, n, c, record: record(random, c) });
     calls
 }
 

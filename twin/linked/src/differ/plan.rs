@@ -10,6 +10,9 @@ const CAPACITIES: [u64; 16] = [1, 2, 3, 4, 5, 8, 16, 31, 32, 33, 64, 100, 128, 2
 /// Sizes at which every word becomes every boundary value from several areas.
 const SMALL: [(u64, u64); 5] = [(1, 1), (1, 2), (2, 1), (2, 2), (3, 2)];
 
+/// Calls in a long run.
+const LONG_RUN: u64 = 4000;
+
 #[derive(Clone, Copy, PartialEq, Eq)]
 pub enum Form {
     Short,
@@ -36,7 +39,7 @@ pub fn sessions(form: Form) -> Vec<Session> {
             // The short form takes three capacities for each N, other ones for the next.
             if long || (n as usize + i) % 6 == 0 {
                 let seed = 10_000 + 100 * n + i as u64;
-                add(Kind::Lively, n, c, seed, if long { 1000 } else { 250 });
+                add(Kind::Lively, n, c, seed, if long { LONG_RUN } else { 250 });
                 add(Kind::Altered, n, c, seed, if long { 160 } else { 64 });
             }
         }
@@ -52,6 +55,17 @@ pub fn sessions(form: Form) -> Vec<Session> {
     if long {
         add(Kind::Swept, 64, 256, 2, 0);
         add(Kind::Lengths, 64, 256, 2, 0);
+    }
+    list
+}
+
+/// The sessions of a form that a trace has: shorter runs, and not the one that alters each word of the
+/// largest area, whose trace would be many gigabytes.
+pub fn traced(form: Form) -> Vec<Session> {
+    let mut list = sessions(form);
+    list.retain(|session| (session.kind, session.n, session.c) != (Kind::Swept, 64, 256));
+    for session in &mut list {
+        session.calls = session.calls.min(LONG_RUN / 4);
     }
     list
 }
