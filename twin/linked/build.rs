@@ -92,7 +92,7 @@ fn write_faults(here: &Path, out: &Path) {
             inner.push_str(&format!("#[path = {:?}] pub mod {module};", to.display().to_string()));
         }
         let (name, about) = (&fault.name, &fault.about);
-        modules.push_str(&format!("#[allow(dead_code, unused)] mod {name} {{ {inner} }}\n"));
+        modules.push_str(&format!("#[allow(unused, clippy::all)] mod {name} {{ {inner} }}\n"));
         list.push_str(&format!("({name:?}, {about:?}, side_of!({name})),\n"));
     }
     let text = format!("{modules}\npub fn all() -> Vec<Fault> {{ vec![\n{list}] }}\n");

@@ -5,7 +5,7 @@ pub struct Random(pub u64);
 
 impl Random {
     /// Any word.
-    pub fn next(&mut self) -> u64 {
+    pub fn word(&mut self) -> u64 {
         self.0 = self.0.wrapping_add(0x9e37_79b9_7f4a_7c15);
         let mut word = self.0;
         word = (word ^ (word >> 30)).wrapping_mul(0xbf58_476d_1ce4_e5b9);
@@ -15,6 +15,6 @@ impl Random {
 
     /// A number from 0 to `most`.
     pub fn upto(&mut self, most: u64) -> u64 {
-        self.next() % (most + 1)
+        self.word() % (most + 1)
     }
 }

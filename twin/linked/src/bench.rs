@@ -25,7 +25,7 @@ impl Planner {
 }
 
 impl Driven for Planner {
-    fn act(&mut self, deed: &Deed) -> Result<Answer, Difference> {
+    fn act(&mut self, deed: &Deed) -> Result<Answer, Box<Difference>> {
         self.plan.push(deed.clone());
         Ok(self.twin.act(deed))
     }
@@ -51,7 +51,7 @@ pub fn long_run(n: u64, c: u64, calls: u64) -> Option<Vec<Deed>> {
 }
 
 /// The calls that playing a run file makes.
-fn played(run: &Run, planner: &mut Planner) -> Result<(), Difference> {
+fn played(run: &Run, planner: &mut Planner) -> Result<(), Box<Difference>> {
     let (n, c) = (run.n, run.c);
     let total = Layout::new(n, c).map_or(0, |at| at.total);
     planner.act(&Deed::Lend(total))?;

@@ -17,7 +17,7 @@ pub fn named(name: &str) -> Option<Side> {
 
 /// How a fault was found.
 pub enum How {
-    Differs(Box<Found>),
+    Differs(Found),
     /// The copy panicked, after so many calls in the sessions before.
     Panics(u64),
     NotFound,
@@ -33,7 +33,7 @@ pub fn search(form: Form, side: Side) -> How {
     }));
     set_hook(hook);
     match outcome {
-        Ok(Err(found)) => How::Differs(Box::new(found)),
+        Ok(Err(found)) => How::Differs(found),
         Ok(Ok(_)) => How::NotFound,
         Err(_) => How::Panics(calls),
     }

@@ -14,7 +14,7 @@ pub const NUMBERS: usize = 11;
 /// Something that deeds are done to.
 pub trait Driven {
     /// Does one deed, and gives the answer that the twin gave.
-    fn act(&mut self, deed: &Deed) -> Result<Answer, Difference>;
+    fn act(&mut self, deed: &Deed) -> Result<Answer, Box<Difference>>;
     /// The twin's words.
     fn area(&self) -> &[u64];
 }
@@ -110,14 +110,14 @@ impl Pair {
 }
 
 impl Driven for Pair {
-    fn act(&mut self, deed: &Deed) -> Result<Answer, Difference> {
+    fn act(&mut self, deed: &Deed) -> Result<Answer, Box<Difference>> {
         let twin = self.twin.act(deed);
         let proved = self.proved.act(deed);
         if deed.is_call() {
             self.calls += 1;
             let same = twin == proved && self.twin.area() == self.proved.area();
             if !same || !self.twin.guarded() || !self.proved.guarded() {
-                return Err(self.difference(deed, twin, proved));
+                return Err(Box::new(self.difference(deed, twin, proved)));
             }
             let numbered = !matches!(deed, Deed::Show(_) | Deed::Words { .. });
             if let (true, Some(count)) = (numbered, self.numbers.get_mut(twin.number as usize)) {

@@ -32,7 +32,7 @@ impl Recorder<'_> {
 }
 
 impl Driven for Recorder<'_> {
-    fn act(&mut self, deed: &Deed) -> Result<Answer, Difference> {
+    fn act(&mut self, deed: &Deed) -> Result<Answer, Box<Difference>> {
         self.write(&deed.words());
         if !deed.is_call() {
             return Ok(self.twin.act(deed));

@@ -59,7 +59,7 @@ fn wild(n: u8, random: &mut Random) -> Vec<u8> {
     for _ in 0..120 {
         let process = random.upto(u64::from(n) + 1) as u8;
         let (kind, length) = match random.upto(19) {
-            0 => (random.next() as u8, 0),
+            0 => (random.word() as u8, 0),
             1 => (STEP, random.upto(2)),
             2..=5 if process == n => (BEGIN, random.upto(c + 1)),
             2..=5 => (BEGIN, random.upto(9) / 9),

@@ -16,7 +16,7 @@ fn counted_word(random: &mut Random, n: u64) -> u64 {
 
 /// A word for a write number: near one of the ends, or small.
 fn write_number(random: &mut Random) -> u64 {
-    [random.upto(9), u64::MAX - random.upto(3), random.next()][random.upto(2) as usize]
+    [random.upto(9), u64::MAX - random.upto(3), random.word()][random.upto(2) as usize]
 }
 
 fn header(at: &Layout) -> [u64; 7] {
@@ -87,7 +87,7 @@ pub fn undamaged(random: &mut Random, at: &Layout) -> Vec<u64> {
     area
 }
 
-pub fn run(session: &Session, at: &Layout, on: &mut dyn Driven) -> Result<(), Difference> {
+pub fn run(session: &Session, at: &Layout, on: &mut dyn Driven) -> Result<(), Box<Difference>> {
     let mut random = Random(session.seed);
     let values = boundary_values(session.n, session.c);
     let mut calls = 0;

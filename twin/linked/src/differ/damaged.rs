@@ -37,7 +37,7 @@ fn base(
     seed: u64,
     at: &Layout,
     on: &mut dyn Driven,
-) -> Result<Vec<u64>, Difference> {
+) -> Result<Vec<u64>, Box<Difference>> {
     start(random, at, on)?;
     if seed % 2 == 1 {
         return Ok(undamaged(random, at));
@@ -54,7 +54,7 @@ fn sweep(
     values: &[u64],
     calls: &[Deed],
     on: &mut dyn Driven,
-) -> Result<(), Difference> {
+) -> Result<(), Box<Difference>> {
     on.act(&Deed::Fill(base.to_vec()))?;
     for (place, &right) in base.iter().enumerate() {
         for &value in values {
@@ -72,14 +72,22 @@ fn sweep(
     Ok(())
 }
 
-pub fn every_value(session: &Session, at: &Layout, on: &mut dyn Driven) -> Result<(), Difference> {
+pub fn every_value(
+    session: &Session,
+    at: &Layout,
+    on: &mut dyn Driven,
+) -> Result<(), Box<Difference>> {
     let mut random = Random(session.seed);
     let base = base(&mut random, session.seed, at, on)?;
     let calls = every_call(&mut random, session.n, session.c);
     sweep(&base, &boundary_values(session.n, session.c), &calls, on)
 }
 
-pub fn few_values(session: &Session, at: &Layout, on: &mut dyn Driven) -> Result<(), Difference> {
+pub fn few_values(
+    session: &Session,
+    at: &Layout,
+    on: &mut dyn Driven,
+) -> Result<(), Box<Difference>> {
     let mut random = Random(session.seed);
     let base = base(&mut random, session.seed, at, on)?;
     let reader = random.upto(session.n - 1);
@@ -88,7 +96,7 @@ pub fn few_values(session: &Session, at: &Layout, on: &mut dyn Driven) -> Result
 }
 
 /// The words of an area lent as fewer or more words, and under the header of another size.
-pub fn lengths(session: &Session, at: &Layout, on: &mut dyn Driven) -> Result<(), Difference> {
+pub fn lengths(session: &Session, at: &Layout, on: &mut dyn Driven) -> Result<(), Box<Difference>> {
     let mut random = Random(session.seed);
     let mut base = base(&mut random, session.seed, at, on)?;
     let calls = every_call(&mut random, session.n, session.c);

@@ -14,7 +14,7 @@ pub const WILD: [u64; 5] = [255, 1 << 32, (1 << 32) + 1, 1 << 63, u64::MAX];
 
 /// A record of random words. Half of them are small, so that they could be taken for something else.
 pub fn record(random: &mut Random, length: u64) -> Vec<u64> {
-    let word = |_| if random.upto(1) == 0 { random.upto(70) } else { random.next() };
+    let word = |_| if random.upto(1) == 0 { random.upto(70) } else { random.word() };
     (0..length).map(word).collect()
 }
 
@@ -59,7 +59,7 @@ fn wild(random: &mut Random, at: &Layout) -> Deed {
 }
 
 /// Makes an area; in one run of four so many writes have ended that few more may.
-pub fn start(random: &mut Random, at: &Layout, on: &mut dyn Driven) -> Result<(), Difference> {
+pub fn start(random: &mut Random, at: &Layout, on: &mut dyn Driven) -> Result<(), Box<Difference>> {
     on.act(&Deed::Lend(at.total))?;
     let length = length(random, at.c as u64);
     let (n, c) = (at.n as u64, at.c as u64);
@@ -72,7 +72,7 @@ pub fn start(random: &mut Random, at: &Layout, on: &mut dyn Driven) -> Result<()
 }
 
 /// One turn of one process. Gives how many calls it made.
-pub fn turn(random: &mut Random, at: &Layout, on: &mut dyn Driven) -> Result<u64, Difference> {
+pub fn turn(random: &mut Random, at: &Layout, on: &mut dyn Driven) -> Result<u64, Box<Difference>> {
     let n = at.n as u64;
     // The writer is chosen as often as all readers together.
     let process = if random.upto(1) == 0 { n } else { random.upto(n - 1) };
@@ -94,7 +94,7 @@ pub fn turn(random: &mut Random, at: &Layout, on: &mut dyn Driven) -> Result<u64
     Ok(calls)
 }
 
-pub fn run(session: &Session, at: &Layout, on: &mut dyn Driven) -> Result<(), Difference> {
+pub fn run(session: &Session, at: &Layout, on: &mut dyn Driven) -> Result<(), Box<Difference>> {
     let mut random = Random(session.seed);
     start(&mut random, at, on)?;
     let mut calls = 1;

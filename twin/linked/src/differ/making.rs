@@ -24,7 +24,7 @@ fn words_lent(random: &mut Random, n: u64, c: u64) -> u64 {
     one_of(random, &[right, right, right, right, right - 1, right + 1, 0, 7, 8, 38, other])
 }
 
-pub fn run(session: &Session, on: &mut dyn Driven) -> Result<(), Difference> {
+pub fn run(session: &Session, on: &mut dyn Driven) -> Result<(), Box<Difference>> {
     let mut random = Random(session.seed);
     for _ in 0..session.calls.div_ceil(2) {
         let form = if random.upto(9) == 0 { one_of(&mut random, &FORMS) } else { FORM };

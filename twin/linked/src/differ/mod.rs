@@ -87,7 +87,7 @@ impl Session {
     }
 
     /// Does its deeds.
-    pub fn run(&self, on: &mut dyn Driven) -> Result<(), Difference> {
+    pub fn run(&self, on: &mut dyn Driven) -> Result<(), Box<Difference>> {
         let Some(at) = Layout::new(self.n, self.c) else {
             return Ok(());
         };

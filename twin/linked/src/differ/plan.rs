@@ -98,7 +98,7 @@ impl Tally {
 pub struct Found {
     pub session: Session,
     pub total: u64,
-    pub difference: Difference,
+    pub difference: Box<Difference>,
 }
 
 /// Runs every session of a form, and stops at the first difference. `told` is handed the number of
