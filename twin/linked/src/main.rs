@@ -101,7 +101,8 @@ fn replay(fields: &[&str]) -> Result<(), String> {
             }
         }
         Err(difference) => {
-            println!("{session}: a difference, and what came before it:\n{difference}")
+            println!("{session}: a difference, and what came before it:\n{difference}");
+            return Err("the boards differ".to_string());
         }
     }
     Ok(())
