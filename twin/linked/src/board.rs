@@ -1,5 +1,17 @@
 //! The proved board as a worker's runtime would hold it: an area that is owned or borrowed, and calls
 //! that give an outcome or a named refusal.
+//!
+//! ```
+//! use linked::board::{Board, Outcome};
+//!
+//! let mut board = Board::fresh(1, 2, &[7])?; // one reader, records of at most two words
+//! board.begin_write(&[8, 9])?;
+//! while board.step(1)? == Outcome::GoesOn {} // process 1 is the writer
+//! board.begin_read(0)?;
+//! while board.step(0)? == Outcome::GoesOn {}
+//! assert_eq!(board.record_or(0, &[]), [8, 9]);
+//! # Ok::<(), linked::board::Refusal>(())
+//! ```
 
 use crate::exports::{self, Answer};
 use std::fmt;
