@@ -107,52 +107,65 @@ pub fn step(area: &mut [u64], process: u64) -> Answer {
 }
 
 fn step_reader(area: &mut [u64], at: &Layout, number: usize) -> Answer {
-    let n = at.n as u64;
     let desk = at.reader(number);
     let last = at.slot(area[desk + reader::LAST] as usize);
     match area[desk + reader::PHASE] {
-        0 => return refused(6),
-        // R1: look at current's index.
-        1 => {
-            let same = index(area[CURRENT]) == area[desk + reader::LAST];
-            area[desk + reader::PHASE] = if same { 4 } else { 2 };
-        }
-        // R3: leave the slot it was bound to.
-        2 => {
-            if area[last + slot::R_END] >= n {
-                return refused(2);
-            }
-            area[last + slot::R_END] += 1;
-            area[desk + reader::PHASE] = 3;
-        }
-        // R4, R5: count itself in current and bind to its slot.
-        3 => {
-            if counter(area[CURRENT]) >= n {
-                return refused(2);
-            }
-            area[CURRENT] += 1;
-            area[desk + reader::LAST] = index(area[CURRENT]);
-            area[desk + reader::PHASE] = 4;
-        }
-        // Take the size and the write number.
-        4 => {
-            area[desk + reader::LEN] = area[last + slot::SIZE];
-            area[desk + reader::WRITE_NUMBER] = area[last + slot::WRITE_NUMBER];
-            area[desk + reader::POS] = 0;
-            if area[desk + reader::LEN] == 0 {
-                return end_read(area, at, desk);
-            }
-            area[desk + reader::PHASE] = 5;
-        }
-        // Phase 5: copy one word.
-        _ => {
-            let pos = area[desk + reader::POS] as usize;
-            area[desk + reader::RECORD + pos] = area[last + slot::CONTENTS + pos];
-            area[desk + reader::POS] += 1;
-            if area[desk + reader::POS] == area[desk + reader::LEN] {
-                return end_read(area, at, desk);
-            }
-        }
+        0 => refused(6),
+        1 => look_at_current(area, desk),
+        2 => leave_slot(area, at, desk, last),
+        3 => bind_to_current(area, at, desk),
+        4 => take_size(area, at, desk, last),
+        _ => copy_to_reader(area, at, desk, last),
+    }
+}
+
+/// Reader phase 1, R1: look at current's index.
+fn look_at_current(area: &mut [u64], desk: usize) -> Answer {
+    let same = index(area[CURRENT]) == area[desk + reader::LAST];
+    area[desk + reader::PHASE] = if same { 4 } else { 2 };
+    GOES_ON
+}
+
+/// Reader phase 2, R3: leave the slot it was bound to.
+fn leave_slot(area: &mut [u64], at: &Layout, desk: usize, last: usize) -> Answer {
+    if area[last + slot::R_END] >= at.n as u64 {
+        return refused(2);
+    }
+    area[last + slot::R_END] += 1;
+    area[desk + reader::PHASE] = 3;
+    GOES_ON
+}
+
+/// Reader phase 3, R4 and R5: count itself in current and bind to its slot.
+fn bind_to_current(area: &mut [u64], at: &Layout, desk: usize) -> Answer {
+    if counter(area[CURRENT]) >= at.n as u64 {
+        return refused(2);
+    }
+    area[CURRENT] += 1;
+    area[desk + reader::LAST] = index(area[CURRENT]);
+    area[desk + reader::PHASE] = 4;
+    GOES_ON
+}
+
+/// Reader phase 4: take the size and the write number.
+fn take_size(area: &mut [u64], at: &Layout, desk: usize, last: usize) -> Answer {
+    area[desk + reader::LEN] = area[last + slot::SIZE];
+    area[desk + reader::WRITE_NUMBER] = area[last + slot::WRITE_NUMBER];
+    area[desk + reader::POS] = 0;
+    if area[desk + reader::LEN] == 0 {
+        return end_read(area, at, desk);
+    }
+    area[desk + reader::PHASE] = 5;
+    GOES_ON
+}
+
+/// Reader phase 5: copy one word.
+fn copy_to_reader(area: &mut [u64], at: &Layout, desk: usize, last: usize) -> Answer {
+    let pos = area[desk + reader::POS] as usize;
+    area[desk + reader::RECORD + pos] = area[last + slot::CONTENTS + pos];
+    area[desk + reader::POS] += 1;
+    if area[desk + reader::POS] == area[desk + reader::LEN] {
+        return end_read(area, at, desk);
     }
     GOES_ON
 }
@@ -171,28 +184,8 @@ fn step_writer(area: &mut [u64], at: &Layout) -> Answer {
     let place = at.slot(in_hand as usize);
     match area[desk + writer::PHASE] {
         0 => return refused(6),
-        // W1: look at the slot in hand.
-        1 => {
-            let free = in_hand != area[desk + writer::LAST_SLOT]
-                && area[place + slot::R_START] == area[place + slot::R_END];
-            if free {
-                let empty = area[desk + writer::LEN] == 0;
-                area[desk + writer::PHASE] = if empty { 3 } else { 2 };
-            } else if in_hand == at.n as u64 + 1 {
-                return refused(8);
-            } else {
-                area[desk + writer::IN_HAND] += 1;
-            }
-        }
-        // Copy one word.
-        2 => {
-            let pos = area[desk + writer::POS] as usize;
-            area[place + slot::CONTENTS + pos] = area[desk + writer::RECORD + pos];
-            area[desk + writer::POS] += 1;
-            if area[desk + writer::POS] == area[desk + writer::LEN] {
-                area[desk + writer::PHASE] = 3;
-            }
-        }
+        1 => return look_at_slot(area, at, place),
+        2 => copy_to_slot(area, desk, place),
         3 => {
             area[place + slot::SIZE] = area[desk + writer::LEN];
             area[place + slot::WRITE_NUMBER] = area[desk + writer::WRITES_ENDED] + 1;
@@ -212,17 +205,47 @@ fn step_writer(area: &mut [u64], at: &Layout) -> Answer {
             area[CURRENT] = in_hand << 32;
             area[desk + writer::PHASE] = 7;
         }
-        // Phase 7, W3: freeze the old slot's count and end the write.
-        _ => {
-            let old = area[desk + writer::OLD_WORD];
-            area[at.slot(index(old) as usize) + slot::R_START] = counter(old);
-            area[desk + writer::LAST_SLOT] = in_hand;
-            area[desk + writer::WRITES_ENDED] += 1;
-            area[desk + writer::PHASE] = 0;
-            return Answer { number: 0, ended: true, age: 0 };
-        }
+        _ => return end_write(area, at),
     }
     GOES_ON
+}
+
+/// Writer phase 1, W1: look at the slot in hand.
+fn look_at_slot(area: &mut [u64], at: &Layout, place: usize) -> Answer {
+    let desk = at.writer;
+    let in_hand = area[desk + writer::IN_HAND];
+    let free = in_hand != area[desk + writer::LAST_SLOT]
+        && area[place + slot::R_START] == area[place + slot::R_END];
+    if free {
+        let empty = area[desk + writer::LEN] == 0;
+        area[desk + writer::PHASE] = if empty { 3 } else { 2 };
+    } else if in_hand == at.n as u64 + 1 {
+        return refused(8);
+    } else {
+        area[desk + writer::IN_HAND] += 1;
+    }
+    GOES_ON
+}
+
+/// Writer phase 2: copy one word.
+fn copy_to_slot(area: &mut [u64], desk: usize, place: usize) {
+    let pos = area[desk + writer::POS] as usize;
+    area[place + slot::CONTENTS + pos] = area[desk + writer::RECORD + pos];
+    area[desk + writer::POS] += 1;
+    if area[desk + writer::POS] == area[desk + writer::LEN] {
+        area[desk + writer::PHASE] = 3;
+    }
+}
+
+/// Writer phase 7, W3: freeze the old slot's count and end the write.
+fn end_write(area: &mut [u64], at: &Layout) -> Answer {
+    let desk = at.writer;
+    let old = area[desk + writer::OLD_WORD];
+    area[at.slot(index(old) as usize) + slot::R_START] = counter(old);
+    area[desk + writer::LAST_SLOT] = area[desk + writer::IN_HAND];
+    area[desk + writer::WRITES_ENDED] += 1;
+    area[desk + writer::PHASE] = 0;
+    Answer { number: 0, ended: true, age: 0 }
 }
 
 /// The reader's record if the area is undamaged and the reader exists, is idle and has finished;

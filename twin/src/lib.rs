@@ -3,6 +3,7 @@
 pub mod area;
 pub mod board;
 pub mod cases;
+pub mod random;
 pub mod runfile;
 pub mod script;
 pub mod text;

@@ -157,17 +157,7 @@ fn add_move<'a>(
             script.write(&record);
         }
         ["S", process] => script.steps(line.byte(process, "a process")?, 1),
-        ["S", process, repeat] => {
-            let process = line.byte(process, "a process")?;
-            let Some(times) = repeat.strip_prefix('x') else {
-                return line.bad(format!("a repeat is written `x8`, not `{repeat}`"));
-            };
-            let times = line.number(times, "a repeat", MOST_MOVES)?;
-            if times == 0 {
-                return line.bad("a repeat must be at least 1");
-            }
-            script.steps(process, times as usize);
-        }
+        ["S", process, repeat] => add_steps(script, line, process, repeat)?,
         ["raw", process, kind, length] => {
             let process = line.byte(process, "a process")?;
             let kind = line.byte(kind, "a kind")?;
@@ -183,6 +173,20 @@ fn add_move<'a>(
         ["raw", ..] => return line.bad("expected `raw process kind length`"),
         _ => return line.bad(format!("unknown move `{}`", line.fields[0])),
     }
+    Ok(())
+}
+
+/// So many steps of a process; the repeat is written `x8`.
+fn add_steps(script: &mut Script, line: &Line, process: &str, repeat: &str) -> Result<(), BadLine> {
+    let process = line.byte(process, "a process")?;
+    let Some(times) = repeat.strip_prefix('x') else {
+        return line.bad(format!("a repeat is written `x8`, not `{repeat}`"));
+    };
+    let times = line.number(times, "a repeat", MOST_MOVES)?;
+    if times == 0 {
+        return line.bad("a repeat must be at least 1");
+    }
+    script.steps(process, times as usize);
     Ok(())
 }
 

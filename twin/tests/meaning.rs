@@ -15,12 +15,7 @@ struct Write {
 /// Follows one run. The step that publishes is the last but one of a write, so a write's length
 /// in steps is looked up in the printed text first.
 fn check(run: &Run, printed: &str) -> usize {
-    let lines: Vec<Vec<u64>> = printed
-        .lines()
-        .skip(1)
-        .take(run.moves.len())
-        .map(|line| line.split(' ').map(|field| field.parse().unwrap_or(0)).collect())
-        .collect();
+    let lines = fields(printed, run.moves.len());
     let start = run.values[..run.start].to_vec();
     let mut writes = vec![Write { record: start, published: true, ended: true, steps_left: 0 }];
     let mut used = run.start;
@@ -49,16 +44,25 @@ fn check(run: &Run, printed: &str) -> usize {
             assert_eq!(line[4] == 1, write.ended);
         } else if line[4] == 1 {
             reads += 1;
-            let oldest = began_at[process];
-            let newest = writes.iter().filter(|write| write.published).count() - 1;
-            let ended = writes.iter().filter(|write| write.ended).count() as u64 - 1;
-            let fits = |k: usize| {
-                writes[k].record == line[6..] && ended.saturating_sub(k as u64) == line[5]
-            };
-            assert!((oldest..=newest).any(fits), "move {i}: {line:?}");
+            assert!(is_of_its_time(line, began_at[process], &writes), "move {i}: {line:?}");
         }
     }
     reads
+}
+
+/// The fields of the moves' lines as numbers, a letter as 0.
+fn fields(printed: &str, moves: usize) -> Vec<Vec<u64>> {
+    let numbers = |line: &str| line.split(' ').map(|field| field.parse().unwrap_or(0)).collect();
+    printed.lines().skip(1).take(moves).map(numbers).collect()
+}
+
+/// Whether a read that ends now gives the record and age of a write that was current since it began.
+fn is_of_its_time(line: &[u64], oldest: usize, writes: &[Write]) -> bool {
+    let newest = writes.iter().filter(|write| write.published).count() - 1;
+    let ended = writes.iter().filter(|write| write.ended).count() as u64 - 1;
+    let fits =
+        |k: usize| writes[k].record == line[6..] && ended.saturating_sub(k as u64) == line[5];
+    (oldest..=newest).any(fits)
 }
 
 /// How many steps the write begun at move `from` takes, if it ends.

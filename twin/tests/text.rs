@@ -46,7 +46,7 @@ fn words_of_a_refused_write_are_left_out() {
 }
 
 #[test]
-fn bad_lines() {
+fn bad_header_lines() {
     for (text, line, part) in [
         ("", 1, "expected `readers`"),
         ("readers 1\n\n", 3, "expected `words`"),
@@ -63,6 +63,10 @@ fn bad_lines() {
         assert_eq!(bad.line, line, "{text}");
         assert!(bad.message.contains(part), "{bad}");
     }
+}
+
+#[test]
+fn bad_move_lines() {
     for (moves, part) in [
         ("B", "expected `B reader`"),
         ("B 1", "process 1 is the writer"),

@@ -2,26 +2,9 @@
 
 use super::orders::{record, script};
 use super::Case;
+use crate::random::Random;
 use crate::runfile::{bytes, Move, Run, BEGIN, STEP};
 use crate::script::Script;
-
-/// A small generator: a counter that goes up by a fixed odd number, stirred.
-struct Random(u64);
-
-impl Random {
-    fn next(&mut self) -> u64 {
-        self.0 = self.0.wrapping_add(0x9e37_79b9_7f4a_7c15);
-        let mut word = self.0;
-        word = (word ^ (word >> 30)).wrapping_mul(0xbf58_476d_1ce4_e5b9);
-        word = (word ^ (word >> 27)).wrapping_mul(0x94d0_49bb_1331_11eb);
-        word ^ (word >> 31)
-    }
-
-    /// A number from 0 to `most`.
-    fn upto(&mut self, most: u64) -> u64 {
-        self.next() % (most + 1)
-    }
-}
 
 const SIZES: [u64; 3] = [1, 2, 5];
 const LONG: usize = 280;
@@ -76,7 +59,7 @@ fn wild(n: u8, random: &mut Random) -> Vec<u8> {
     for _ in 0..120 {
         let process = random.upto(u64::from(n) + 1) as u8;
         let (kind, length) = match random.upto(19) {
-            0 => (random.next() as u8, 0),
+            0 => (random.word() as u8, 0),
             1 => (STEP, random.upto(2)),
             2..=5 if process == n => (BEGIN, random.upto(c + 1)),
             2..=5 => (BEGIN, random.upto(9) / 9),
