@@ -33,7 +33,7 @@ pub fn put_all(out: &mut [u8], at: usize, bytes: &[u8]) -> usize
 fn put_none(out: &[u8], at: usize) -> usize
     ensures { λ r. ⌜ sheet (now (out .entry)) r ≡ Sheet·put (sheet (now (out .entry)) at) [] ⌝ }
 {
-    if out.len() <= at { out.len() } else { at }
+    if at < out.len() { at } else { out.len() }
 }
 
 // A number in decimal.

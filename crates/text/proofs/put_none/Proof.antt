@@ -6,10 +6,10 @@ use Rattle.text.proofs.put_none.Statement.{statement}
 use Rattle.text.proofs.put_none.Tie as tie
 
 returns : tie.Need-returns
-returns c = put-past _ _ [] (c .if1 .taken)
+returns c = put-nothing _ _ (omega arith)
 
 returns-2 : tie.Need-returns-2
-returns-2 c = put-nothing _ _ (omega arith)
+returns-2 c = put-past _ _ [] (c .if1 .left)
 
 pub put-none-spec : {M : Type 1} → statement M
 put-none-spec = tie.close (tie.spec returns returns-2)
