@@ -1,8 +1,9 @@
--- A run as the code goes through it, move by move: what is left of its text makes what all of it makes. Assumes nothing.
+-- A run as the code goes through it, move by move: what is left of its text makes what all of it makes.
+-- Assumes nothing.
 use mathlib.Core.Path.{_≡_, refl, sym, ap, _∙_}
-use mathlib.Core.List.{List, [], _∷_, _++_, append-assoc}
-use mathlib.Core.Bool.{Bool, true, false, cond}
-use Prim.Native.Nat.{ℕ, zero, suc, _+_, _≤_, _<_}
+use mathlib.Core.List.{List, _++_, append-assoc}
+use mathlib.Core.Bool.{Bool, true, false}
+use Prim.Native.Nat.{ℕ, suc, _+_, _≤_, _<_}
 use native.Mathlib.Numerals.{add-one}
 use native.Mathlib.Omega.{arith}
 use lib.Dec.{eqb}
@@ -13,7 +14,7 @@ use Rattle.runfile.specs.declared.types.Written.{Written as CodeWritten}
 use Rattle.text.specs.Sheet.{Sheet, sheet, put}
 use Rattle.text.proofs.Sheets.{put-twice, then-put}
 use Rattle.tally.specs.Tally.{Tally, no-tally, counted, as-tally, Room}
-use Rattle.playing.specs.Play.{State, played, next, answers, state-after, tally-of, first-state}
+use Rattle.playing.specs.Play.{State, played, next, first-state}
 use Rattle.bench.specs.Printed.{answer-line, move-line, first-line, last-line, lines-from, run-text}
 use Rattle.bench.specs.Printed.{refused-text, printed}
 use Rattle.bench.specs.Code.{Course, as-course, course-after}
@@ -24,12 +25,16 @@ use Rattle.bench.specs.declared.types.Progress.{Progress}
 -- ---- one move
 
 course-of : {s s′ : State} {t t′ : Tally} (p p′ : _) → s ≡ s′ → p ≡ p′ → t ≡ t′
-    → _≡_ {A = Course} (record { state = s; text = p; tally = t }) (record { state = s′; text = p′; tally = t′ })
+    → _≡_ {A = Course} (record { state = s; text = p; tally = t })
+    (record { state = s′; text = p′; tally = t′ })
 course-of p p′ e f g = rw (e, f, g)
 
-pub moved-on : (b : List ℕ) (i : ℕ) (a out a′ out′ : List ℕ) (g r : Progress) (n : ℕ) (w : CodeWritten) (x : Played)
-    → n ≡ readers b → as-written w ≡ written b i → as-outcome x a′ ≡ played b (state a (g .used)) (written b i)
-    → sheet out′ (r .end) ≡ put (sheet out (g .end)) (answer-line n i (as-written w) (as-outcome x a′ .answer))
+pub moved-on : (b : List ℕ) (i : ℕ) (a out a′ out′ : List ℕ) (g r : Progress) (n : ℕ) (w : CodeWritten)
+    (x : Played)
+    → n ≡ readers b → as-written w ≡ written b i
+    → as-outcome x a′ ≡ played b (state a (g .used)) (written b i)
+    → sheet out′ (r .end) ≡ put (sheet out (g .end))
+    (answer-line n i (as-written w) (as-outcome x a′ .answer))
     → r .used ≡ x .used → as-tally (r .tally) ≡ counted (as-tally (g .tally)) (x .number) (x .age)
     → as-course a′ out′ r ≡ course-after b i (as-course a out g)
 moved-on b i a out a′ out′ g r n w x e-n e-w e-x e-text e-used e-tally =
@@ -47,7 +52,8 @@ unfolding counted
 counted-up t number age = go (eqb number 0) refl
   where
     go : (so : Bool) → eqb number 0 ≡ so
-        → (counted t number age .accepted ≤ t .accepted + 1) × (counted t number age .refusals ≤ t .refusals + 1)
+        → (counted t number age .accepted ≤ t .accepted + 1)
+        × (counted t number age .refusals ≤ t .refusals + 1)
     go true e = rw e (omega arith, omega arith)
     go false e = rw e (omega arith, omega arith)
 
@@ -91,12 +97,14 @@ coursing-none b a out at used e =
           ∙ ap (λ j. put (sheet out at) (lines-from b j 0 (state a (starting-length b)) no-tally)) (all-left k d);
     }
 
-module _ {b a₀ out₀ : List ℕ} {at : ℕ} {a out : List ℕ} {g : Progress} {i : ℕ} (x : Coursing b a₀ out₀ at a out g i) where
+module _ {b a₀ out₀ : List ℕ} {at : ℕ} {a out : List ℕ} {g : Progress} {i : ℕ}
+    (x : Coursing b a₀ out₀ at a out g i) where
   pub coursing-room : i ≤ 4294967295 → Room (g .tally)
   coursing-room h = record { accepted = omega (arith, x .few-accepted); refusals = omega (arith, x .few-refusals) }
 
   -- one move more
-  pub coursing-more : (a′ out′ : List ℕ) (g′ : Progress) → i < moves b → i + 1 ≤ 4294967295 → length a′ ≡ length a
+  pub coursing-more : (a′ out′ : List ℕ) (g′ : Progress) → i < moves b → i + 1 ≤ 4294967295
+      → length a′ ≡ length a
       → length out′ ≡ length out → as-course a′ out′ g′ ≡ course-after b i (as-course a out g)
       → Coursing b a₀ out₀ at a′ out′ g′ (i + 1)
   coursing-more a′ out′ g′ h small words bytes e =
@@ -115,7 +123,8 @@ module _ {b a₀ out₀ : List ℕ} {at : ℕ} {a out : List ℕ} {g : Progress}
       }
     where
       more : (k : ℕ) → i + 1 + k ≡ moves b
-          → put (sheet out′ (g′ .end)) (lines-from b k (i + 1) (state a′ (g′ .used)) (as-tally (g′ .tally)))
+          → put (sheet out′ (g′ .end)) (lines-from b k (i + 1) (state a′ (g′ .used))
+          (as-tally (g′ .tally)))
           ≡ put (sheet out₀ at) (lines-from b (moves b) 0 (state a₀ (starting-length b)) no-tally)
       more k c =
           let s = state a (g .used) in
@@ -133,7 +142,8 @@ module _ {b a₀ out₀ : List ℕ} {at : ℕ} {a out : List ℕ} {g : Progress}
   -- every move, and the last line
   pub coursing-done : {end : ℕ} {out′ : List ℕ} → moves b ≤ i
       → sheet out′ end ≡ put (sheet out (g .end)) (last-line a (as-tally (g .tally)))
-      → sheet out′ end ≡ put (sheet out₀ at) (lines-from b (moves b) 0 (state a₀ (starting-length b)) no-tally)
+      → sheet out′ end ≡ put (sheet out₀ at)
+      (lines-from b (moves b) 0 (state a₀ (starting-length b)) no-tally)
   coursing-done h e = e ∙ x .rest 0 (omega (arith, x .within))
 
 -- ---- the whole text

@@ -14,10 +14,12 @@ use Rattle.bench.specs.Printed.{letter, one-if, answer-line}
 blanks-joined : (l k : List Text) → behind-blanks (l ++ k) ≡ behind-blanks l ++ behind-blanks k
 blanks-joined [] k = refl
 blanks-joined (t ∷ l) k =
-    ap (λ u. blank ∷ t ++ u) (blanks-joined l k) ∙ sym (append-assoc (blank ∷ t) (behind-blanks l) (behind-blanks k))
+    ap (λ u. blank ∷ t ++ u) (blanks-joined l k)
+    ∙ sym (append-assoc (blank ∷ t) (behind-blanks l) (behind-blanks k))
 
 -- a field behind the fields before it
-pub more-fields : (s : Sheet) (t : Text) (l : List Text) (u : Text) {r q : Sheet} → r ≡ put s (t ++ behind-blanks l)
+pub more-fields : (s : Sheet) (t : Text) (l : List Text) (u : Text) {r q : Sheet}
+    → r ≡ put s (t ++ behind-blanks l)
     → q ≡ put r (blank ∷ u) → q ≡ put s (t ++ behind-blanks (l ++ (u ∷ [])))
 more-fields s t l u e d = then-put s (t ++ behind-blanks l) (blank ∷ u) e d ∙ ap (put s) joined
   where
@@ -32,7 +34,8 @@ pub all-fields : (s : Sheet) (t : Text) (l k : List Text) {r q : Sheet} → r �
     → q ≡ put r (behind-blanks k) → q ≡ put s (t ++ behind-blanks (l ++ k))
 all-fields s t l k e d =
     then-put s (t ++ behind-blanks l) (behind-blanks k) e d
-    ∙ ap (put s) (append-assoc t (behind-blanks l) (behind-blanks k) ∙ ap (λ u. t ++ u) (sym (blanks-joined l k)))
+    ∙ ap (put s) (append-assoc t (behind-blanks l) (behind-blanks k)
+    ∙ ap (λ u. t ++ u) (sym (blanks-joined l k)))
 
 -- the first field
 pub one-field : (s : Sheet) (t : Text) {r : Sheet} → r ≡ put s t → r ≡ put s (t ++ behind-blanks [])
@@ -47,10 +50,13 @@ whole-line s t l e d = then-put s (t ++ behind-blanks l) (newline ∷ []) e d
 
 module _ (s : Sheet) (n i : ℕ) (w : Written) (x : Answer) where
   abbrev four : List Text
-  four = decimal (w .process) ∷ (letter (w .kind) ∷ []) ∷ decimal (x .number) ∷ decimal (one-if (x .ended)) ∷ []
+  four =
+      decimal (w .process) ∷ (letter (w .kind) ∷ []) ∷ decimal (x .number)
+      ∷ decimal (one-if (x .ended)) ∷ []
 
   -- a read that ended
-  pub read-line : {r q z : Sheet} → x .ended && ltb (w .process) n ≡ true → r ≡ put s (decimal i ++ behind-blanks four)
+  pub read-line : {r q z : Sheet} → x .ended && ltb (w .process) n ≡ true
+      → r ≡ put s (decimal i ++ behind-blanks four)
       → q ≡ put r (behind-blanks (decimal (x .age) ∷ map decimal (shown (x .area) (w .process) [])))
       → z ≡ put q (newline ∷ []) → z ≡ put s (answer-line n i w x)
   read-line e f g h =
@@ -58,6 +64,7 @@ module _ (s : Sheet) (n i : ℕ) (w : Written) (x : Answer) where
       rw e (whole-line s (decimal i) (four ++ fields) (all-fields s (decimal i) four fields f g) h)
 
   -- anything else
-  pub other-line : {r z : Sheet} → x .ended && ltb (w .process) n ≡ false → r ≡ put s (decimal i ++ behind-blanks four)
+  pub other-line : {r z : Sheet} → x .ended && ltb (w .process) n ≡ false
+      → r ≡ put s (decimal i ++ behind-blanks four)
       → z ≡ put r (newline ∷ []) → z ≡ put s (answer-line n i w x)
   other-line e f h = rw e (whole-line s (decimal i) four f h)

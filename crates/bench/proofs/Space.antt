@@ -32,7 +32,8 @@ module _ (b : List ℕ) (e : is-run-file b ≡ true) (h : Header) (head : h ≡ 
       let facts = file-facts b e in
       (omega (arith, ap (λ z. z .n) head, facts .few-readers), omega (arith, ap (λ z. z .c) head, facts .few-words))
 
-  module _ (p : Layout) (laid : p ≡ layout-of (h .n) (h .c)) (space : List ℕ) (enough : 711 ≤ length space) where
+  module _ (p : Layout) (laid : p ≡ layout-of (h .n) (h .c)) (space : List ℕ)
+      (enough : 711 ≤ length space) where
     its-total : p .total ≡ total (form1 (readers b) (capacity b))
     its-total = ap (λ z. z .total) laid ∙ ap (λ z. total (form1 (z .n) (z .c))) head
 

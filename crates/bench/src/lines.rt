@@ -45,8 +45,9 @@ fn put_answer(
     number: u64,
     ended: bool,
 ) -> usize
-    ensures { λ r. ⌜ sheet (now (out .exit)) r ≡ Sheet·put (sheet (now (out .entry)) at) (decimal i ++ behind-blanks
-        (decimal process ∷ (Printed·letter kind ∷ []) ∷ decimal number ∷ decimal (one-if ended) ∷ [])) ⌝ }
+    ensures { λ r. ⌜ sheet (now (out .exit)) r ≡ Sheet·put (sheet (now (out .entry)) at)
+        (decimal i ++ behind-blanks (decimal process ∷ (Printed·letter kind ∷ []) ∷ decimal number
+        ∷ decimal (one-if ended) ∷ [])) ⌝ }
 {
     let a = put_number(out, at, i as u64);
     let b = put_field(out, a, process);

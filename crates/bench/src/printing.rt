@@ -29,7 +29,8 @@ ghost use Rattle.bench.specs.Code.{as-course, course-after};
 
 // Puts the text of these bytes: that of the run if they are a run file, and one line if not. Returns where it ends.
 pub fn put_text(file: &[u8], out: &mut [u8]) -> usize
-    ensures { λ r. ⌜ sheet (now (out .exit)) r ≡ put (sheet (now (out .entry)) 0) (printed (now (file .entry))) ⌝ }
+    ensures { λ r. ⌜ sheet (now (out .exit)) r
+        ≡ put (sheet (now (out .entry)) 0) (printed (now (file .entry))) ⌝ }
     ensures { λ r. ⌜ Counts r (now (out .exit)) ⌝ }
 {
     if !file::is_run_file(file) {
@@ -42,7 +43,8 @@ pub fn put_text(file: &[u8], out: &mut [u8]) -> usize
 // The text of a run, on the first words of some that are enough for any run.
 fn put_run_in(file: &[u8], space: &mut [u64], out: &mut [u8]) -> usize
     requires { ⌜ (is-run-file (now file) ≡ true) × (711 ≤ length (now space)) ⌝ }
-    ensures { λ r. ⌜ sheet (now (out .exit)) r ≡ put (sheet (now (out .entry)) 0) (run-text (now (file .entry))) ⌝ }
+    ensures { λ r. ⌜ sheet (now (out .exit)) r
+        ≡ put (sheet (now (out .entry)) 0) (run-text (now (file .entry))) ⌝ }
 {
     let h = file::header(file);
     let p = Layout::new(h.n as usize, h.c as usize);
@@ -53,7 +55,8 @@ fn put_run_in(file: &[u8], space: &mut [u64], out: &mut [u8]) -> usize
 fn put_run(file: &[u8], area: &mut [u64], out: &mut [u8]) -> usize
     requires { ⌜ is-run-file (now file) ≡ true ⌝ }
     requires { ⌜ length (now area) ≡ total (form1 (readers (now file)) (capacity (now file))) ⌝ }
-    ensures { λ r. ⌜ sheet (now (out .exit)) r ≡ put (sheet (now (out .entry)) 0) (run-text (now (file .entry))) ⌝ }
+    ensures { λ r. ⌜ sheet (now (out .exit)) r
+        ≡ put (sheet (now (out .entry)) 0) (run-text (now (file .entry))) ⌝ }
 {
     start(file, area);
     let end = put_first(out, 0, file);

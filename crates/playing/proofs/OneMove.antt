@@ -1,15 +1,14 @@
 -- One move of a run file, one law for each way through the code. Assumes nothing.
 use mathlib.Core.Path.{_≡_, refl, sym, ap, _∙_}
-use mathlib.Core.Bool.{Bool, true, false, cond}
+use mathlib.Core.Bool.{Bool, true, false}
 use mathlib.Core.List.{List, [], _∷_}
-use mathlib.Core.Logic.{_⊎_, inl, inr}
+use mathlib.Core.Logic.{inl, inr}
 use Prim.Native.Nat.{ℕ, _+_, _-_, _≤_, _<_, min}
 use native.Mathlib.Decide.{ℕ-discrete}
 use native.Mathlib.Omega.{arith}
 use borrow.Author.Tests.{le-leb, lt-leb, eq-eqb, ne-eqb}
 use types.Run.{OneOf}
 use denote.Enum.Declared.{tagOf}
-use lib.Dec.{eqb, leb}
 use lib.ListN.{length, take, replicate}
 use Rattle.register.specs.Place.{Record}
 use Rattle.register.specs.Area.{is-area, capacity}
@@ -45,7 +44,8 @@ its-moves b e = ap (λ h. h .moves) e
 abbrev pub tell : Returned → ℕ → Played
 tell r used = record { number = r .number; ended = r .ended; age = r .age; used = used }
 
-told : (x : Played) (r : Returned) (u : ℕ) (a : List ℕ) {y : Answer} {v : ℕ} → x ≡ tell r u → whole r a ≡ y → u ≡ v
+told : (x : Played) (r : Returned) (u : ℕ) (a : List ℕ) {y : Answer} {v : ℕ} → x ≡ tell r u
+    → whole r a ≡ y → u ≡ v
     → as-outcome x a ≡ record { answer = y; used = v }
 told x r u a e f g = ap (λ z. as-outcome z a) e ∙ ap2 f g
   where
@@ -54,7 +54,8 @@ told x r u a e f g = ap (λ z. as-outcome z a) e ∙ ap2 f g
     ap2 p q = rw (p, q)
 
 -- a record of more than 256 words is too long for every area
-too-long : (a : List ℕ) (u v : Record) → 256 < length u → 256 < length v → answered a (write u) ≡ answered a (write v)
+too-long : (a : List ℕ) (u v : Record) → 256 < length u → 256 < length v
+    → answered a (write u) ≡ answered a (write v)
 unfolding answered
 too-long a u v long-u long-v = go (is-area a) refl
   where
@@ -96,7 +97,8 @@ module _ (b a : List ℕ) (used len : ℕ) (x : Played) (r : Returned) where
         → as-outcome x a′ ≡ outcome b (state a used) (values-for len)
     write-accepted e d =
         let zero-answered = eq-eqb _ 0 (sym (ap (λ y. y .number) its-answer) ∙ e) in
-        told x r (used + len) a′ d its-answer refl ∙ sym (rw (le-leb (used + len) (values b) enough, zero-answered))
+        told x r (used + len) a′ d its-answer refl
+        ∙ sym (rw (le-leb (used + len) (values b) enough, zero-answered))
 
     -- refused, none is
     pub write-refused : (r .number ≡ 0 → ⊥) → x ≡ tell r used
@@ -108,11 +110,13 @@ module _ (b a : List ℕ) (used len : ℕ) (x : Played) (r : Returned) where
 
 -- ---- the other ways
 
-pub malformed : (b a : List ℕ) (used : ℕ) (x : Played) (r : Returned) → r ≡ record { number = 12; ended = false; age = 0 }
+pub malformed : (b a : List ℕ) (used : ℕ) (x : Played) (r : Returned)
+    → r ≡ record { number = 12; ended = false; age = 0 }
     → x ≡ tell r used → as-outcome x a ≡ outcome b (state a used) nothing
 malformed b a used x r e d = told x r used a d (ap (λ z. whole z a) e) (omega arith)
 
-pub moved : (b a a′ : List ℕ) (used : ℕ) (x : Played) (r : Returned) (y : Move) → whole r a′ ≡ answered a y → x ≡ tell r used
+pub moved : (b a a′ : List ℕ) (used : ℕ) (x : Played) (r : Returned) (y : Move)
+    → whole r a′ ≡ answered a y → x ≡ tell r used
     → as-outcome x a′ ≡ outcome b (state a used) (move y)
 moved b a a′ used x r y e d = told x r used a′ d e (omega arith)
 
@@ -132,7 +136,8 @@ neither (variants.Step q) (inr (inl e)) g h = absurd (omega arith)
 neither (variants.Step q) (inr (inr e)) g h = absurd (omega arith)
 
 -- what was decoded is what the definition asks for
-pub as-played : (b a : List ℕ) (used : ℕ) (w : Written) (n : ℕ) (v : Written) (y : Asked) → n ≡ readers b → v ≡ w
+pub as-played : (b a : List ℕ) (used : ℕ) (w : Written) (n : ℕ) (v : Written) (y : Asked) → n ≡ readers b
+    → v ≡ w
     → y ≡ asked n v → outcome b (state a used) y ≡ played b (state a used) w
 unfolding played
 as-played b a used w n v y e d f = ap (outcome b (state a used)) (f ∙ ap2 e d)

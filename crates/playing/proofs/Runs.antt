@@ -1,11 +1,10 @@
 -- The area after a run file's run is the area after its accepted calls, so the demands speak of it. Assumes nothing.
 use mathlib.Core.Path.{_≡_, refl, sym, ap, subst, _∙_}
 use mathlib.Core.Logic.{_≢_}
-use mathlib.Core.Bool.{Bool, true, false, cond}
+use mathlib.Core.Bool.{cond}
 use mathlib.Core.List.{List, [], _∷_, _++_}
-use Prim.Native.Nat.{ℕ, zero, suc, _+_, _*_, _≤_}
+use Prim.Native.Nat.{ℕ, zero, suc, _+_, _*_}
 use native.Mathlib.Decide.{ℕ-discrete}
-use native.Mathlib.Omega.{arith}
 use lib.Dec.{eqb, leb}
 use lib.ListN.{length}
 use Rattle.register.specs.Table.{total}
@@ -17,11 +16,11 @@ use Rattle.register.proofs.Tests.{if-true, eqb-equal, eqb-other}
 use Rattle.register.proofs.Intact.{keeps}
 use Rattle.register.proofs.Making.{fresh-length}
 use Rattle.runfile.specs.Bytes.{words-at}
-use Rattle.runfile.specs.RunFile.{readers, capacity, moves, values, values-at, starting-length, starting-record}
+use Rattle.runfile.specs.RunFile.{readers, capacity, moves, values, values-at, starting-record}
 use Rattle.runfile.specs.RunFile.{written, Asked, nothing, values-for, move, asked}
-use Rattle.playing.specs.Play.{State, answer-of, uses, played, next, state-after, first-state, run-state}
+use Rattle.playing.specs.Play.{State, answer-of, played, next, state-after, first-state, run-state}
 use Rattle.playing.specs.Play.{call-of, accepted-call, accepted-calls}
-use Rattle.playing.specs.Promise.{Played, PlaysARun}
+use Rattle.playing.specs.Promise.{PlaysARun}
 use Rattle.playing.proofs.Starting.{short, well, started}
 
 -- ---- one move
@@ -91,7 +90,8 @@ whole b (suc k) i s =
       accepted =
           joined (s .area) (next b s (written b i) .area) first-calls rest-calls (first .accepted) (first .area)
           (rest .accepted);
-      area = after-joined (s .area) (next b s (written b i) .area) first-calls rest-calls (first .area) ∙ rest .area;
+      area = after-joined (s .area) (next b s (written b i) .area) first-calls rest-calls (first .area)
+          ∙ rest .area;
     }
 
 -- ---- it is a run of the demands

@@ -2,13 +2,13 @@
 use mathlib.Core.Path.{_≡_, ap, _∙_}
 use mathlib.Core.Bool.{true}
 use mathlib.Core.List.{List}
-use Prim.Native.Nat.{ℕ, _+_, _*_, _≤_}
+use Prim.Native.Nat.{ℕ, _≤_}
 use native.Mathlib.Omega.{arith}
 use lib.ListN.{length, take, replicate}
 use Rattle.register.specs.Table.{total}
 use Rattle.register.specs.Area.{form1}
 use Rattle.register.specs.Calls.{made}
-use Rattle.register.proofs.Made.{Made, made-well, makes}
+use Rattle.register.proofs.Made.{made-well, makes}
 use Rattle.answer.specs.Carried.{whole}
 use Rattle.answer.specs.declared.Answer.{Answer as Returned}
 use Rattle.runfile.specs.Bytes.{words-at}
@@ -44,12 +44,14 @@ module _ (b : List ℕ) (e : is-run-file b ≡ true) where
   few-starting h head = omega (arith, ap (λ z. z .starting) head, facts .short, facts .few-words)
 
   -- so it is where the record was taken into 32 words
-  pub started-with : (a a′ l : List ℕ) (h : Header) (r : Returned) → length a ≡ total (form1 (readers b) (capacity b))
+  pub started-with : (a a′ l : List ℕ) (h : Header) (r : Returned)
+      → length a ≡ total (form1 (readers b) (capacity b))
       → h ≡ header-of b → l ≡ pasted (replicate 32 0) 0 (words-at (h .starting) b (place b 0))
       → whole r a′ ≡ made 1 (h .n) (h .c) (take (h .starting) l) a → a′ ≡ first-state b .area
   started-with a a′ l h r exact head full called =
       ap (λ y. y .area) called
-      ∙ ap (λ v. made 1 (h .n) (h .c) v a .area) (front-words 32 (h .starting) b (place b 0) l (few-starting h head) full)
+      ∙ ap (λ v. made 1 (h .n) (h .c) v a .area)
+      (front-words 32 (h .starting) b (place b 0) l (few-starting h head) full)
       ∙ ap (λ z. made 1 (z .n) (z .c) (words-at (z .starting) b (place b 0)) a .area) head
       ∙ ap (λ i. made 1 (readers b) (capacity b) (words-at (starting-length b) b i) a .area) at-once
       ∙ started a exact

@@ -1,6 +1,6 @@
 -- Values of a run file taken one by one: what is left of them makes what all of them make. Assumes nothing.
-use mathlib.Core.Path.{_≡_, refl, sym, ap, subst, _∙_}
-use mathlib.Core.List.{List, [], _∷_}
+use mathlib.Core.Path.{_≡_, refl, sym, ap, _∙_}
+use mathlib.Core.List.{List}
 use Prim.Native.Nat.{ℕ, zero, suc, _+_, _*_, _≤_, _<_}
 use native.Mathlib.Numerals.{add-one}
 use native.Mathlib.Omega.{arith}
@@ -23,7 +23,8 @@ pub record Taking (b : List ℕ) (used k : ℕ) (a₀ a : List ℕ) (i at : ℕ)
   pub within : i ≤ k
   pub as-many : length a ≡ length a₀
   pub place-of-next : at ≡ used + i
-  pub rest : (j : ℕ) → i + j ≡ k → pasted a i (words-at j b (place b at)) ≡ pasted a₀ 0 (words-at k b (place b used))
+  pub rest : (j : ℕ) → i + j ≡ k → pasted a i (words-at j b (place b at)) ≡ pasted a₀ 0
+      (words-at k b (place b used))
 
 all-left : {k : ℕ} (j : ℕ) → 0 + j ≡ k → j ≡ k
 all-left j e = omega arith
@@ -50,7 +51,8 @@ module _ {b : List ℕ} {used k : ℕ} {a₀ a : List ℕ} {i at : ℕ} (x : Tak
       }
     where
       more : (j : ℕ) → i + 1 + j ≡ k
-          → pasted (set a i v) (i + 1) (words-at j b (place b (at + 1))) ≡ pasted a₀ 0 (words-at k b (place b used))
+          → pasted (set a i v) (i + 1) (words-at j b (place b (at + 1))) ≡ pasted a₀ 0
+          (words-at k b (place b used))
       more j c =
           let behind : place b (at + 1) ≡ place b at + 8 = omega arith in
           rw (behind, add-one, e) (pasted-set a i (number-at 8 b (place b at)) (words-at j b (place b at + 8)) inside
@@ -63,15 +65,18 @@ module _ {b : List ℕ} {used k : ℕ} {a₀ a : List ℕ} {i at : ℕ} (x : Tak
 -- ---- values taken into words that were all 0
 
 -- there are as many words as before, so the first k are k
-pub front-room : (m k : ℕ) (l : List ℕ) (t : List ℕ) → k ≤ m → l ≡ pasted (replicate m 0) 0 t → k ≤ length l
+pub front-room : (m k : ℕ) (l : List ℕ) (t : List ℕ) → k ≤ m → l ≡ pasted (replicate m 0) 0 t
+    → k ≤ length l
 front-room m k l t h e =
     let many : length l ≡ m = ap length e ∙ pasted-length (replicate m 0) 0 t ∙ length-replicate m 0 in
     omega arith
 
-pub front-length : (m k : ℕ) (l : List ℕ) (t : List ℕ) → k ≤ m → l ≡ pasted (replicate m 0) 0 t → k ≡ length (take k l)
+pub front-length : (m k : ℕ) (l : List ℕ) (t : List ℕ) → k ≤ m → l ≡ pasted (replicate m 0) 0 t
+    → k ≡ length (take k l)
 front-length m k l t h e = sym (length-take-le k l (front-room m k l t h e))
 
-pub front-words : (m k : ℕ) (b : List ℕ) (i : ℕ) (l : List ℕ) → k ≤ m → l ≡ pasted (replicate m 0) 0 (words-at k b i)
+pub front-words : (m k : ℕ) (b : List ℕ) (i : ℕ) (l : List ℕ) → k ≤ m
+    → l ≡ pasted (replicate m 0) 0 (words-at k b i)
     → take k l ≡ words-at k b i
 front-words m k b i l h e =
     let exact = words-length k b i in

@@ -1,5 +1,5 @@
--- The counts of a register with readers' counters, over bare numbers: what each kind of step does to them. Assumes
--- nothing.
+-- The counts of a register with readers' counters, over bare numbers: what each kind of step does to them.
+-- Assumes nothing.
 --
 -- n readers; `here` and `counted` are the index and the counter of the current word, `old` and `frozen` those of the
 -- old word;

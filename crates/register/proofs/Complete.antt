@@ -1,5 +1,5 @@
--- The history leaves nothing out: it has as many reads, publications and ended writes as the answers tell. Assumes
--- nothing.
+-- The history leaves nothing out: it has as many reads, publications and ended writes as the answers tell.
+-- Assumes nothing.
 use mathlib.Core.Path.{_≡_, refl, sym, ap, subst, _∙_}
 use mathlib.Core.Bool.{Bool, true, false, cond}
 use mathlib.Core.List.{List, [], _∷_}

@@ -1,5 +1,5 @@
--- What the counts say of slots and readers: the slot in hand is nobody's, counters have room, a scan ends. Assumes
--- nothing.
+-- What the counts say of slots and readers: the slot in hand is nobody's, counters have room, a scan ends.
+-- Assumes nothing.
 use mathlib.Core.Path.{_≡_, refl, sym, _∙_}
 use mathlib.Core.Logic.{_≢_}
 use mathlib.Core.Bool.{Bool, true, false, cond}

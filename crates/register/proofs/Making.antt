@@ -1,5 +1,5 @@
--- A fresh area: it is an area, it is undamaged, and everything that a run keeps holds at its beginning. Assumes
--- nothing.
+-- A fresh area: it is an area, it is undamaged, and everything that a run keeps holds at its beginning.
+-- Assumes nothing.
 use mathlib.Core.Path.{_≡_, refl, sym, ap, _∙_, fun-ext}
 use mathlib.Core.Logic.{_≢_}
 use mathlib.Core.Bool.{Bool, true, false, cond}

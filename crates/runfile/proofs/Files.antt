@@ -124,7 +124,8 @@ module _ (b : List ℕ) (m v : ℕ) (the-m : m ≡ moves b) (the-v : v ≡ value
   pub not-recorded : (s : ℕ) → s ≡ starting-length b → v < s → false ≡ all (part-tests b)
   not-recorded s e h = fails (part-tests b) 3 (lt-leb (starting-length b) (values b) (omega arith))
 
-  pub values-misplaced : (x : ℕ) → x ≡ values-at b → (x ≡ 28 + 4 * m → ⊥) → false ≡ all (part-tests b)
+  pub values-misplaced : (x : ℕ) → x ≡ values-at b → (x ≡ 28 + 4 * m → ⊥)
+      → false ≡ all (part-tests b)
   values-misplaced x e d = fails (part-tests b) 4 (ne-eqb (values-at b) (28 + 4 * moves b) (λ z. d (omega arith)))
 
   pub parts-end : (x s y : ℕ) → x ≡ moves-at b → s ≡ starting-length b → y ≡ values-at b → m ≤ 4000

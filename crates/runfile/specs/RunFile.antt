@@ -1,12 +1,12 @@
 -- What a run file is, and its moves one by one. Assumes nothing.
-use mathlib.Core.Bool.{Bool, cond, _||_, _&&_, not}
+use mathlib.Core.Bool.{Bool, cond, _&&_}
 use mathlib.Core.List.{List, [], _∷_}
 use Prim.Native.Nat.{ℕ, _+_, _*_}
 use lib.Dec.{eqb, leb}
 use lib.ListN.{length, getD}
 use Rattle.register.specs.Place.{Record}
 use Rattle.register.specs.Area.{all}
-use Rattle.register.specs.Steps.{Move, read, write, step}
+use Rattle.register.specs.Steps.{Move, read, step}
 use Rattle.runfile.specs.Bytes.{number-at, words-at}
 
 -- ---- the header: seven 4-byte counts and offsets

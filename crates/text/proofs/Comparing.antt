@@ -1,7 +1,8 @@
--- Texts compared byte by byte: what is left decides what all of them decide; and the answer is equality. Assumes nothing.
+-- Texts compared byte by byte: what is left decides what all of them decide; and the answer is equality.
+-- Assumes nothing.
 use mathlib.Core.Path.{_≡_, refl, sym, ap, _∙_}
 use mathlib.Core.Bool.{Bool, true, false, _&&_}
-use mathlib.Core.List.{List, [], _∷_}
+use mathlib.Core.List.{[], _∷_}
 use Prim.Native.Nat.{ℕ, suc, _+_, _≤_, _<_}
 use native.Mathlib.Numerals.{add-one}
 use native.Mathlib.Omega.{arith}
@@ -56,7 +57,8 @@ module _ {t u : Text} {i : ℕ} (x : Comparing t u i) (h : i < length t) (k : i 
   comparing-more e =
       record { within = omega arith; rest = rw add-one (sym (both ∙ rw (eq-eqb _ _ e))) }
 
-pub comparing-done : {t u : Text} {i : ℕ} → Comparing t u i → length t ≤ i → length t ≡ length u → true ≡ same-text t u
+pub comparing-done : {t u : Text} {i : ℕ} → Comparing t u i → length t ≤ i → length t ≡ length u
+    → true ≡ same-text t u
 comparing-done {t} {u} {i} x h e =
     let k : length u ≤ i = omega arith in
     sym (rw (drop-of-length-le t h, drop-of-length-le u k)) ∙ x .rest

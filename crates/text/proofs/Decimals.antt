@@ -1,13 +1,13 @@
--- The fewest digits that hold a number, as the kit's `io::decimal` puts them, are its digits in decimal. Assumes nothing.
-use mathlib.Core.Path.{_≡_, refl, ap, subst}
-use mathlib.Core.List.{List, [], _∷_, _++_}
-use Prim.Native.Nat.{ℕ, zero, suc, _+_, _-_, _*_, _/_, _%_, _^_, _≤_, _<_}
-use native.Mathlib.Nat.{mod-lt, pow-suc, one-le-pow, pow-le-pow-right, le-of-suc-le-suc, lt-of-not-le, le-div-iff-mul-le, div-lt-iff-lt-mul}
+-- The fewest digits that hold a number, as the kit's `io::decimal` puts them, are its digits in decimal.
+-- Assumes nothing.
+use mathlib.Core.Path.{_≡_, subst}
+use Prim.Native.Nat.{ℕ, zero, suc, _+_, _-_, _/_, _%_, _^_, _≤_, _<_}
+use native.Mathlib.Nat.{mod-lt, pow-suc, one-le-pow, pow-le-pow-right, le-of-suc-le-suc, lt-of-not-le}
+use native.Mathlib.Nat.{le-div-iff-mul-le, div-lt-iff-lt-mul}
 use native.Mathlib.Omega.{arith}
 use borrow.Author.Tests.{lt-ltb, le-ltb}
-use lib.Dec.{ltb}
 use Rattle.io.specs.Digits.{digits, glyph, Fewest}
-use Rattle.text.specs.Lines.{Text, digits-within, decimal}
+use Rattle.text.specs.Lines.{digits-within, decimal}
 
 glyph-of : (n : ℕ) → glyph (n % 10) ≡ 48 + n % 10
 glyph-of n = rw (lt-ltb (n % 10) 10 (mod-lt n (omega arith)))
@@ -18,8 +18,10 @@ shorter j n fewest =
     let more = pow-suc 10 (suc j) in
     let less = pow-suc 10 j in
     let there : 10 ^ suc j ≤ n = subst (λ k. 10 ^ k ≤ n) (omega arith) (fewest .2 (omega arith)) in
-    let held : n / 10 < 10 ^ suc j = div-lt-iff-lt-mul {k = 10} {x = n} {y = 10 ^ suc j} (omega arith) .1 (omega (arith, more, fewest .1)) in
-    let filled : 10 ^ j ≤ n / 10 = le-div-iff-mul-le {k = 10} {x = 10 ^ j} {y = n} (omega arith) .1 (omega (arith, less, there)) in
+    let held : n / 10 < 10 ^ suc j = div-lt-iff-lt-mul {k = 10} {x = n} {y = 10 ^ suc j} (omega arith) .1
+    (omega (arith, more, fewest .1)) in
+    let filled : 10 ^ j ≤ n / 10 = le-div-iff-mul-le {k = 10} {x = 10 ^ j} {y = n} (omega arith) .1
+    (omega (arith, less, there)) in
     (omega arith, held, λ h. subst (λ k. 10 ^ k ≤ n / 10) (omega arith) filled)
 
 several : (j n : ℕ) → Fewest 10 1 n (suc (suc j)) → 10 ≤ n
@@ -34,7 +36,12 @@ spelled (suc f) (suc zero) n fewest h =
     let few : n < 10 = omega (arith, fewest .1, pow-suc 10 0) in
     rw (lt-ltb n 10 few, glyph-of n)
 spelled (suc f) (suc (suc j)) n fewest h =
-    rw (le-ltb n 10 (several j n fewest), glyph-of n, ← spelled f (suc j) (n / 10) (shorter j n fewest) (omega arith))
+    rw (
+      le-ltb n 10 (several j n fewest),
+      glyph-of n,
+      ← spelled f (suc j) (n / 10) (shorter j n fewest)
+          (omega arith),
+    )
 
 -- 20 digits hold a 64-bit word
 not-more : (k n : ℕ) → n < 18446744073709551616 → Fewest 10 1 n k → 20 < k → ⊥

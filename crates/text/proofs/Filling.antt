@@ -7,7 +7,7 @@ use native.Mathlib.Omega.{arith}
 use lib.ListN.{length, getD, drop, drop-of-length-le}
 use lib.Seq.{drop-cons}
 use Rattle.text.specs.Lines.{Text, blank, decimal, behind-blanks}
-use Rattle.text.specs.Sheet.{Sheet, pasted, put, sheet}
+use Rattle.text.specs.Sheet.{put, sheet}
 use Rattle.text.proofs.Sheets.{pasted-length, put-twice, put-nothing}
 
 -- what was put lies inside the bytes, and there are as many bytes
@@ -16,7 +16,8 @@ pub put-length : (l : List ℕ) (i : ℕ) (t : Text) {k : List ℕ} {j : ℕ} �
 unfolding put
 put-length l i t e = ap (λ s. length (s .bytes)) e ∙ pasted-length l i t
 
-pub put-inside : (l : List ℕ) (i : ℕ) (t : Text) {k : List ℕ} {j : ℕ} → sheet k j ≡ put (sheet l i) t → j ≤ length k
+pub put-inside : (l : List ℕ) (i : ℕ) (t : Text) {k : List ℕ} {j : ℕ} → sheet k j ≡ put (sheet l i) t
+    → j ≤ length k
 unfolding put
 put-inside l i t {k} {j} e =
     let many = ap (λ s. length (s .bytes)) e ∙ pasted-length l i t in
@@ -37,14 +38,16 @@ fields-in-pieces [] = refl
 fields-in-pieces (x ∷ v) = ap (λ l. blank ∷ decimal x ++ l) (fields-in-pieces v)
 
 -- bytes a₀ with a text that ends at `at` became a with one that ends at `end` when i pieces of v's were put
-pub record Filling (f : ℕ → Text) (a₀ : List ℕ) (at : ℕ) (v : List ℕ) (a : List ℕ) (end i : ℕ) : Type 0 where
+pub record Filling (f : ℕ → Text) (a₀ : List ℕ) (at : ℕ) (v : List ℕ) (a : List ℕ)
+    (end i : ℕ) : Type 0 where
   pub within : i ≤ length v
   pub as-many : length a ≡ length a₀
   pub inside : end ≤ length a
   pub rest : put (sheet a end) (pieces f (drop i v)) ≡ put (sheet a₀ at) (pieces f v)
 
 -- no piece yet
-pub filling-none : (f : ℕ → Text) (a : List ℕ) (at : ℕ) (v : List ℕ) {end : ℕ} → sheet a end ≡ put (sheet a at) []
+pub filling-none : (f : ℕ → Text) (a : List ℕ) (at : ℕ) (v : List ℕ) {end : ℕ}
+    → sheet a end ≡ put (sheet a at) []
     → Filling f a at v a end 0
 filling-none f a at v e =
     record {
@@ -54,7 +57,8 @@ filling-none f a at v e =
       rest = ap (λ s. put s (pieces f v)) e ∙ put-twice (sheet a at) [] (pieces f v);
     }
 
-module _ {f : ℕ → Text} {a₀ : List ℕ} {at : ℕ} {v : List ℕ} {a : List ℕ} {end i : ℕ} (x : Filling f a₀ at v a end i) where
+module _ {f : ℕ → Text} {a₀ : List ℕ} {at : ℕ} {v : List ℕ} {a : List ℕ} {end i : ℕ}
+    (x : Filling f a₀ at v a end i) where
   -- one piece more
   pub filling-more : {b : List ℕ} {j : ℕ} → i < length v → sheet b j ≡ put (sheet a end) (f (getD v i 0))
       → Filling f a₀ at v b j (i + 1)

@@ -1,10 +1,10 @@
 -- One text put behind another is both put at once. Assumes nothing.
-use mathlib.Core.Path.{_≡_, refl, sym, ap, _∙_}
-use mathlib.Core.List.{List, [], _∷_, _++_, append-assoc}
+use mathlib.Core.Path.{_≡_, refl, ap, _∙_}
+use mathlib.Core.List.{List, [], _∷_, _++_}
 use Prim.Native.Nat.{ℕ, zero, suc, _+_, _≤_, _<_, min}
-use native.Mathlib.Nat.{suc-add, zero-add, suc-min-suc, min-zero, le-of-suc-le-suc, not-suc-le-zero}
+use native.Mathlib.Nat.{suc-add}
 use native.Mathlib.Omega.{arith}
-use lib.ListN.{length, set, take, length-append, length-set}
+use lib.ListN.{length, set, take, length-append}
 use Rattle.text.specs.Lines.{Text}
 use Rattle.text.specs.Sheet.{Sheet, pasted, put, sheet}
 
@@ -34,7 +34,8 @@ put-twice s t u =
     let i = s .end in
     let as-many = pasted-length l i t in
     let joined = length-append t u in
-    let ends : min (length (pasted l i t)) (min (length l) (i + length t) + length u) ≡ min (length l) (i + length (t ++ u)) =
+    let ends : min (length (pasted l i t)) (min (length l) (i + length t) + length u) ≡ min (length l)
+    (i + length (t ++ u)) =
     omega arith in
     rw (ends, pasted-twice l i (min (length l) (i + length t)) t u refl)
 
@@ -51,7 +52,8 @@ pasted-byte (y ∷ z ∷ l) zero x = refl
 pasted-byte (y ∷ l) (suc i) x = ap {B = List ℕ} (λ k. y ∷ k) (pasted-byte l i x)
 
 -- one byte stored, and the rest put behind it
-pub pasted-set : (l : List ℕ) (i x : ℕ) (t : Text) → i < length l → pasted (set l i x) (suc i) t ≡ pasted l i (x ∷ t)
+pub pasted-set : (l : List ℕ) (i x : ℕ) (t : Text) → i < length l
+    → pasted (set l i x) (suc i) t ≡ pasted l i (x ∷ t)
 pasted-set [] i x t h = absurd (omega arith)
 pasted-set (y ∷ l) zero x t h = refl
 pasted-set (y ∷ l) (suc i) x t h = ap {B = List ℕ} (λ k. y ∷ k) (pasted-set l i x t (omega arith))
@@ -74,7 +76,8 @@ pasted-nothing [] i = refl
 pasted-nothing (x ∷ l) zero = refl
 pasted-nothing (x ∷ l) (suc i) = ap {B = List ℕ} (λ k. x ∷ k) (pasted-nothing l i)
 
-pub put-byte : (l : List ℕ) (i x : ℕ) → i < length l → sheet (set l i x) (i + 1) ≡ put (sheet l i) (x ∷ [])
+pub put-byte : (l : List ℕ) (i x : ℕ) → i < length l
+    → sheet (set l i x) (i + 1) ≡ put (sheet l i) (x ∷ [])
 unfolding put
 put-byte l i x h =
     let ends : min (length l) (i + 1) ≡ i + 1 = omega arith in

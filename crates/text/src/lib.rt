@@ -18,7 +18,8 @@ pub fn put(out: &mut [u8], at: usize, byte: u8) -> usize
 
 // All of these bytes, one behind another.
 pub fn put_all(out: &mut [u8], at: usize, bytes: &[u8]) -> usize
-    ensures { λ r. ⌜ sheet (now (out .exit)) r ≡ Sheet·put (sheet (now (out .entry)) at) (now (bytes .entry)) ⌝ }
+    ensures { λ r. ⌜ sheet (now (out .exit)) r
+        ≡ Sheet·put (sheet (now (out .entry)) at) (now (bytes .entry)) ⌝ }
 {
     let mut end = put_none(out, at);
     let mut i = 0;
@@ -47,7 +48,8 @@ pub fn put_number(out: &mut [u8], at: usize, n: u64) -> usize
 
 // A blank, and a number in decimal.
 pub fn put_field(out: &mut [u8], at: usize, n: u64) -> usize
-    ensures { λ r. ⌜ sheet (now (out .exit)) r ≡ Sheet·put (sheet (now (out .entry)) at) (blank ∷ decimal n) ⌝ }
+    ensures { λ r. ⌜ sheet (now (out .exit)) r
+        ≡ Sheet·put (sheet (now (out .entry)) at) (blank ∷ decimal n) ⌝ }
 {
     let end = put(out, at, b' ');
     put_number(out, end, n)

@@ -1,6 +1,5 @@
 -- `text::put` meets its contract: a byte where there is room, and nothing where there is none. Assumes nothing.
 use borrow.Author.Needs.{needs}
-use mathlib.Core.List.{[], _∷_}
 use Rattle.text.proofs.Sheets.{put-byte, put-past}
 use Rattle.text.proofs.put.Statement.{statement}
 use Rattle.text.proofs.put.Tie as tie

@@ -44,7 +44,9 @@ same-length : tie.Need-same-length Inv-loop μ-loop
 same-length c = c .before .loop .inv .as-many
 
 returns : tie.Need-returns Inv-loop μ-loop
-returns c = filling-done (c .before .loop .inv) (fields-in-pieces (c .before .before .before .before .before .before .args .words .now)) (c .loop-test .left)
+returns c =
+    filling-done (c .before .loop .inv) (fields-in-pieces
+    (c .before .before .before .before .before .before .args .words .now)) (c .loop-test .left)
 
 pub put-fields-spec : {M : Type 1} → statement M
 put-fields-spec =

@@ -3,7 +3,8 @@ use borrow.Author.Needs.{needs}
 use native.Mathlib.Omega.{arith}
 use Prim.Native.Nat.{_-_}
 use lib.ListN.{length}
-use Rattle.text.proofs.Comparing.{Comparing, comparing-none, comparing-differ, comparing-more, comparing-done}
+use Rattle.text.proofs.Comparing.{Comparing, comparing-none, comparing-differ, comparing-more}
+use Rattle.text.proofs.Comparing.{comparing-done}
 use Rattle.text.proofs.Comparing.{other-length}
 use Rattle.text.proofs.same.Statement.{statement}
 use Rattle.text.proofs.same.Tie as tie
@@ -29,7 +30,9 @@ shared-slice-read-if2-2 : tie.Need-shared-slice-read-if2-2 Inv-loop μ-loop
 shared-slice-read-if2-2 c = search needs
 
 returns-2 : tie.Need-returns-2 Inv-loop μ-loop
-returns-2 c = comparing-differ (c .before .before .before .before .loop .inv) (c .before .before .before .loop-test .taken) (omega arith) (c .if2 .taken)
+returns-2 c =
+    comparing-differ (c .before .before .before .before .loop .inv) (c .before .before .before .loop-test .taken)
+    (omega arith) (c .if2 .taken)
 
 add-i : tie.Need-add-i Inv-loop μ-loop
 add-i c = search needs
@@ -38,7 +41,9 @@ loop-less : tie.Need-loop-less Inv-loop μ-loop
 loop-less c = search needs
 
 loop-again : tie.Need-loop-again Inv-loop μ-loop
-loop-again c = comparing-more (c .before .before .before .before .loop .inv) (c .before .before .before .loop-test .taken) (omega arith) (c .if2 .left)
+loop-again c =
+    comparing-more (c .before .before .before .before .loop .inv) (c .before .before .before .loop-test .taken)
+    (omega arith) (c .if2 .left)
 
 returns-3 : tie.Need-returns-3 Inv-loop μ-loop
 returns-3 c = comparing-done (c .before .loop .inv) (c .loop-test .left) (c .before .before .if1 .left)

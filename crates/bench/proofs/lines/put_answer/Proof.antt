@@ -58,8 +58,10 @@ returns c =
     (more-fields s i [] p (one-field s i (first-put .put-number .ensures)) (process-put .put-field .ensures))
     (then-put _ (blank ∷ []) (kind .result ∷ []) (blank-put .put .ensures) (letter-put .put2 .ensures)))
     (number-put .put-field2 .ensures)) (flag-put .put-field3 .ensures)
-    ∙ ap (λ z. put s (i ++ behind-blanks (p ∷ (z ∷ []) ∷ n ∷ decimal (flag .result) ∷ []))) (kind .ensures)
-    ∙ ap (λ z. put s (i ++ behind-blanks (p ∷ (letter (a .kind) ∷ []) ∷ n ∷ decimal z ∷ []))) (flag .ensures)
+    ∙ ap (λ z. put s (i ++ behind-blanks (p ∷ (z ∷ []) ∷ n ∷ decimal (flag .result) ∷ [])))
+    (kind .ensures)
+    ∙ ap (λ z. put s (i ++ behind-blanks (p ∷ (letter (a .kind) ∷ []) ∷ n ∷ decimal z ∷ [])))
+    (flag .ensures)
 
 pub put-answer-spec : {M : Type 1} → statement M
 put-answer-spec =

@@ -1,8 +1,8 @@
--- `bench::lines::put_first` meets its contract: its pieces are the line, and its numbers those of the header. Assumes nothing.
+-- `bench::lines::put_first` meets its contract: its pieces are the line, and its numbers those of the header.
+-- Assumes nothing.
 use borrow.Author.Needs.{needs}
 use mathlib.Core.Path.{ap, _∙_}
 use mathlib.Core.List.{[], _∷_}
-use Rattle.runfile.specs.Code.{header-of}
 use Rattle.text.specs.Lines.{decimal, line}
 use Rattle.text.specs.Sheet.{sheet, put}
 use Rattle.bench.specs.Printed.{run-word}
@@ -59,9 +59,11 @@ returns c =
     whole-line s run-word (n ∷ k ∷ m ∷ [])
     (more-fields s run-word (n ∷ k ∷ []) m
     (more-fields s run-word (n ∷ []) k
-    (more-fields s run-word [] n (one-field s run-word (word-put .put-all .ensures)) (readers-put .put-field .ensures))
+    (more-fields s run-word [] n (one-field s run-word (word-put .put-all .ensures))
+    (readers-put .put-field .ensures))
     (capacity-put .put-field2 .ensures)) (moves-put .put-field3 .ensures)) (end-put .put .ensures)
-    ∙ ap (λ z. put s (line run-word (decimal (z .n) ∷ decimal (z .c) ∷ decimal (z .moves) ∷ []))) (head .ensures)
+    ∙ ap (λ z. put s (line run-word (decimal (z .n) ∷ decimal (z .c) ∷ decimal (z .moves) ∷ [])))
+    (head .ensures)
 
 pub put-first-spec : {M : Type 1} → statement M
 put-first-spec =

@@ -55,7 +55,8 @@ returns c =
     (more-fields s end-word (w ∷ yes-count ∷ no-count ∷ []) most
     (more-fields s end-word (w ∷ yes-count ∷ []) no-count
     (more-fields s end-word (w ∷ []) yes-count
-    (more-fields s end-word [] w (one-field s end-word (word-put .put-all .ensures)) (current-put .put-field .ensures))
+    (more-fields s end-word [] w (one-field s end-word (word-put .put-all .ensures))
+    (current-put .put-field .ensures))
     (accepted-put .put-field2 .ensures)) (refusals-put .put-field3 .ensures)) (greatest-put .put-field4 .ensures))
     (end-put .put .ensures)
     ∙ ap (λ z. put s (line end-word (decimal z ∷ yes-count ∷ no-count ∷ most ∷ []))) (word .ensures)

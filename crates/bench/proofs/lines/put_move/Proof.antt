@@ -25,8 +25,10 @@ returns c =
     let read-put = end-put .before .before .before .before in
     let answer-put = read-put .before .before .before .before .before .before .before in
     let a = answer-put .before .before .before .before .args in
-    read-line (sheet (a .out .now) (a .at)) (a .n) (a .i) (as-written (a .w)) (as-outcome (a .x) (a .area .now) .answer)
-    (read-put .before .before .if1 .taken) (answer-put .put-answer .ensures) (read-put .put-read .ensures) (end-put .put .ensures)
+    read-line (sheet (a .out .now) (a .at)) (a .n) (a .i) (as-written (a .w))
+    (as-outcome (a .x) (a .area .now) .answer)
+    (read-put .before .before .if1 .taken) (answer-put .put-answer .ensures) (read-put .put-read .ensures)
+    (end-put .put .ensures)
 
 put-requires-2 : tie.Need-put-requires-2
 put-requires-2 c κs = search needs
@@ -39,7 +41,8 @@ returns-2 c =
     let end-put = c .before .before in
     let answer-put = end-put .before .before .before .before .before .before .before in
     let a = answer-put .before .before .before .before .args in
-    other-line (sheet (a .out .now) (a .at)) (a .n) (a .i) (as-written (a .w)) (as-outcome (a .x) (a .area .now) .answer)
+    other-line (sheet (a .out .now) (a .at)) (a .n) (a .i) (as-written (a .w))
+    (as-outcome (a .x) (a .area .now) .answer)
     (end-put .before .before .if1 .left) (answer-put .put-answer .ensures) (end-put .put2 .ensures)
 
 pub put-move-spec : {M : Type 1} → statement M

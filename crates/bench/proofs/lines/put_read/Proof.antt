@@ -1,7 +1,7 @@
 -- `bench::lines::put_read` meets its contract: the words behind the age. Assumes nothing.
 use borrow.Author.Needs.{needs}
 use mathlib.Core.Path.{ap, _∙_}
-use mathlib.Core.List.{[], _∷_, map}
+use mathlib.Core.List.{_∷_, map}
 use Rattle.text.specs.Lines.{blank, decimal, behind-blanks}
 use Rattle.text.specs.Sheet.{sheet, put}
 use Rattle.text.proofs.Sheets.{then-put}
@@ -30,7 +30,8 @@ returns c =
     let a = age-put .before .before .before .before .args in
     let words = words-put .before .show-one in
     let s = sheet (a .out .now) (a .at) in
-    then-put s (blank ∷ decimal (a .age)) (behind-blanks (map decimal (words .result .now))) (age-put .put-field .ensures)
+    then-put s (blank ∷ decimal (a .age)) (behind-blanks (map decimal (words .result .now)))
+    (age-put .put-field .ensures)
     (words-put .put-fields .ensures)
     ∙ ap (λ v. put s (behind-blanks (decimal (a .age) ∷ map decimal v))) (words .ensures)
 

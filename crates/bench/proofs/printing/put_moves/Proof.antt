@@ -39,7 +39,11 @@ loop-again c =
     let play = c .before .before .before .before in
     let turn = play .before .before .before .before .before in
     let a = turn .before .before .before .before .before .before .args in
-    coursing-more (turn .loop .inv) _ _ _ (omega (arith, its-moves (a .file .now) (turn .before .before .header .ensures))) (omega arith)
+    coursing-more (turn .loop .inv) _ _ _ (omega (
+      arith,
+      its-moves (a .file .now)
+          (turn .before .before .header .ensures),
+    )) (omega arith)
     (omega arith) (omega arith) (play .put-next .ensures)
 
 put-last-requires : tie.Need-put-last-requires Inv-loop μ-loop

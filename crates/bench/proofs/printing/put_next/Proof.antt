@@ -1,4 +1,5 @@
--- `bench::printing::put_next` meets its contract: the move is played, its line put, and the tally counted. Assumes nothing.
+-- `bench::printing::put_next` meets its contract: the move is played, its line put, and the tally counted.
+-- Assumes nothing.
 use borrow.Author.Needs.{needs}
 use mathlib.Core.Path.{refl}
 use Rattle.playing.proofs.OneMove.{its-readers}
@@ -39,8 +40,10 @@ returns c =
     let head = play .before .before .before .header in
     moved-on (a .file .now) (a .i) (a .area .now) (a .out .now) _ _ (a .g)
     (record { end = line-put .put-move .result; used = move .result .used; tally = c .brought-up .result })
-    (head .result .n) (play .before .before .written-move .result) (move .result) (its-readers (a .file .now) (head .ensures))
-    (play .before .before .written-move .ensures) (move .ensures) (line-put .put-move .ensures) refl (c .brought-up .ensures)
+    (head .result .n) (play .before .before .written-move .result) (move .result)
+    (its-readers (a .file .now) (head .ensures))
+    (play .before .before .written-move .ensures) (move .ensures) (line-put .put-move .ensures) refl
+    (c .brought-up .ensures)
 
 pub put-next-spec : {M : Type 1} → statement M
 put-next-spec =

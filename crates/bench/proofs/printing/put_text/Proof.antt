@@ -1,4 +1,5 @@
--- `bench::printing::put_text` meets its contract: what is no run file is refused, and a run file played. Assumes nothing.
+-- `bench::printing::put_text` meets its contract: what is no run file is refused, and a run file played.
+-- Assumes nothing.
 use borrow.Author.Needs.{needs}
 use borrow.Author.Tests.{not-true, not-false}
 use native.Mathlib.Omega.{arith}

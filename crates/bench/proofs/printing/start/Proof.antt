@@ -1,9 +1,7 @@
 -- `bench::printing::start` meets its contract: the starting record is taken, and the area made. Assumes nothing.
 use borrow.Author.Needs.{needs}
 use native.Mathlib.Omega.{arith}
-use mathlib.Core.Path.{ap}
 use Rattle.runfile.specs.Bytes.{words-at}
-use Rattle.runfile.proofs.Files.{file-facts}
 use Rattle.playing.proofs.Values.{place, front-length, front-room}
 use Rattle.playing.proofs.Starting.{few-starting, started-with}
 use Rattle.bench.proofs.printing.start.Statement.{statement}
@@ -21,7 +19,8 @@ slice-aggregate-take-values c = search needs
 take-values-requires : tie.Need-take-values-requires
 take-values-requires c κs =
     let head = c .before .before .header in
-    let few = few-starting (c .before .before .before .before .before .args .file .now) (c .before .before .before .before .before .pre .0) (head .result) (head .ensures) in
+    let few = few-starting (c .before .before .before .before .before .args .file .now)
+    (c .before .before .before .before .before .pre .0) (head .result) (head .ensures) in
     (omega arith, few)
 
 cast-make : tie.Need-cast-make
@@ -37,7 +36,8 @@ array-share-prefix-words c =
     let a = taken .before .before .before .before .before .before .args in
     let k = head .result .starting in
     front-room 32 k _ (words-at k (a .file .now) (place (a .file .now) 0))
-    (few-starting (a .file .now) (taken .before .before .before .before .before .before .pre .0) (head .result) (head .ensures)) (taken .take-values .ensures)
+    (few-starting (a .file .now) (taken .before .before .before .before .before .before .pre .0) (head .result)
+    (head .ensures)) (taken .take-values .ensures)
 
 slice-aggregate-make : tie.Need-slice-aggregate-make
 slice-aggregate-make c =
@@ -46,7 +46,8 @@ slice-aggregate-make c =
     let a = taken .before .before .before .before .before .before .args in
     let k = head .result .starting in
     front-length 32 k _ (words-at k (a .file .now) (place (a .file .now) 0))
-    (few-starting (a .file .now) (taken .before .before .before .before .before .before .pre .0) (head .result) (head .ensures)) (taken .take-values .ensures)
+    (few-starting (a .file .now) (taken .before .before .before .before .before .before .pre .0) (head .result)
+    (head .ensures)) (taken .take-values .ensures)
 
 make-requires : tie.Need-make-requires
 make-requires c κs = search needs

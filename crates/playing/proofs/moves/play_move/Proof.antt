@@ -41,8 +41,10 @@ returns c =
     let a = d .before .before .before .before .before .before .args in
     malformed (a .file .now) (a .area .now) (a .used) _ _ (c .before .refusal .ensures) (c .answered .ensures)
     ∙ as-played (a .file .now) (a .area .now) (a .used) (written (a .file .now) (a .k)) _ _ nothing
-    (its-readers (a .file .now) (d .before .before .before .header .ensures)) (d .before .before .written-move .ensures)
-    (neither (d .asked .result) (c .before .before .before .before .match .keys2) (c .before .before .before .match2 .keys2) (c .before .before .match3 .keys2) ∙ d .asked .ensures)
+    (its-readers (a .file .now) (d .before .before .before .header .ensures))
+    (d .before .before .written-move .ensures)
+    (neither (d .asked .result) (c .before .before .before .before .match .keys2)
+    (c .before .before .before .match2 .keys2) (c .before .before .match3 .keys2) ∙ d .asked .ensures)
 
 play-write-requires : tie.Need-play-write-requires
 play-write-requires c κs = search needs
@@ -56,7 +58,8 @@ returns-2 c =
     let a = d .before .before .before .before .before .before .args in
     c .before .before .play-write .ensures
     ∙ as-played (a .file .now) (a .area .now) (a .used) (written (a .file .now) (a .k)) _ _ (values-for _)
-    (its-readers (a .file .now) (d .before .before .before .header .ensures)) (d .before .before .written-move .ensures)
+    (its-readers (a .file .now) (d .before .before .before .header .ensures))
+    (d .before .before .written-move .ensures)
     (ap as-asked (sym (c .before .before .before .before .before .m3 .given .1)) ∙ d .asked .ensures)
 
 begin-read-requires : tie.Need-begin-read-requires
@@ -72,9 +75,11 @@ returns-3 : tie.Need-returns-3
 returns-3 c =
     let d = c .before .before .before .before .before .before .before .before .before in
     let a = d .before .before .before .before .before .before .args in
-    moved (a .file .now) (a .area .now) _ (a .used) _ _ (read _) (c .before .before .before .begin-read .ensures) (c .answered2 .ensures)
+    moved (a .file .now) (a .area .now) _ (a .used) _ _ (read _) (c .before .before .before .begin-read .ensures)
+    (c .answered2 .ensures)
     ∙ as-played (a .file .now) (a .area .now) (a .used) (written (a .file .now) (a .k)) _ _ (move (read _))
-    (its-readers (a .file .now) (d .before .before .before .header .ensures)) (d .before .before .written-move .ensures)
+    (its-readers (a .file .now) (d .before .before .before .header .ensures))
+    (d .before .before .written-move .ensures)
     (ap as-asked (sym (c .before .before .before .before .before .before .m2 .given .1)) ∙ d .asked .ensures)
 
 step-requires : tie.Need-step-requires
@@ -90,9 +95,11 @@ returns-4 : tie.Need-returns-4
 returns-4 c =
     let d = c .before .before .before .before .before .before .before .before in
     let a = d .before .before .before .before .before .before .args in
-    moved (a .file .now) (a .area .now) _ (a .used) _ _ (step _) (c .before .before .before .step .ensures) (c .answered3 .ensures)
+    moved (a .file .now) (a .area .now) _ (a .used) _ _ (step _) (c .before .before .before .step .ensures)
+    (c .answered3 .ensures)
     ∙ as-played (a .file .now) (a .area .now) (a .used) (written (a .file .now) (a .k)) _ _ (move (step _))
-    (its-readers (a .file .now) (d .before .before .before .header .ensures)) (d .before .before .written-move .ensures)
+    (its-readers (a .file .now) (d .before .before .before .header .ensures))
+    (d .before .before .written-move .ensures)
     (ap as-asked (sym (c .before .before .before .before .before .before .m .given .1)) ∙ d .asked .ensures)
 
 pub play-move-spec : {M : Type 1} → statement M

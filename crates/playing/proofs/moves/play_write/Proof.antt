@@ -23,7 +23,11 @@ returns : tie.Need-returns
 returns c =
     let a = c .before .before .before .before .before .before .before .args in
     write-13 (a .file .now) (a .area .now) (a .used) (a .len) _ _ (c .before .refusal .ensures)
-    (c .answered .ensures) (omega (arith, its-values (a .file .now) (c .before .before .before .before .header .ensures)))
+    (c .answered .ensures) (omega (
+      arith,
+      its-values (a .file .now)
+          (c .before .before .before .before .header .ensures),
+    ))
 
 refusal-requires-2 : tie.Need-refusal-requires-2
 refusal-requires-2 c κs = search needs
@@ -35,7 +39,11 @@ returns-2 : tie.Need-returns-2
 returns-2 c =
     let a = c .before .before .before .before .before .before .before .before .args in
     write-13 (a .file .now) (a .area .now) (a .used) (a .len) _ _ (c .before .refusal2 .ensures)
-    (c .answered2 .ensures) (omega (arith, its-values (a .file .now) (c .before .before .before .before .before .header .ensures)))
+    (c .answered2 .ensures) (omega (
+      arith,
+      its-values (a .file .now)
+          (c .before .before .before .before .before .header .ensures),
+    ))
 
 at-most-257-requires : tie.Need-at-most-257-requires
 at-most-257-requires c κs = search needs
@@ -78,7 +86,8 @@ returns-3 c =
     let d = b .before .before .before .before in
     let a = d .before .before .before .before .before .before .before .before .before .args in
     write-accepted (a .file .now) (a .area .now) (a .used) (a .len) _ _ _ _ _
-    (omega (arith, its-values (a .file .now) (d .before .before .before .before .before .before .header .ensures))) (d .before .before .at-most-257 .ensures)
+    (omega (arith, its-values (a .file .now) (d .before .before .before .before .before .before .header .ensures)))
+    (d .before .before .at-most-257 .ensures)
     (d .take-values .ensures) (b .begin-write .ensures) (c .before .if3 .taken) (c .answered3 .ensures)
 
 answered-requires-4 : tie.Need-answered-requires-4
@@ -93,7 +102,8 @@ returns-4 c =
     let d = b .before .before .before .before in
     let a = d .before .before .before .before .before .before .before .before .before .args in
     write-refused (a .file .now) (a .area .now) (a .used) (a .len) _ _ _ _ _
-    (omega (arith, its-values (a .file .now) (d .before .before .before .before .before .before .header .ensures))) (d .before .before .at-most-257 .ensures)
+    (omega (arith, its-values (a .file .now) (d .before .before .before .before .before .before .header .ensures)))
+    (d .before .before .at-most-257 .ensures)
     (d .take-values .ensures) (b .begin-write .ensures) (c .before .if3 .left) (c .answered4 .ensures)
 
 pub play-write-spec : {M : Type 1} → statement M

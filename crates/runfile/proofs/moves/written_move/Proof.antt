@@ -1,4 +1,5 @@
--- `runfile::moves::written_move` meets its contract: its numbers stand where the definition has them. Assumes nothing.
+-- `runfile::moves::written_move` meets its contract: its numbers stand where the definition has them.
+-- Assumes nothing.
 use borrow.Author.Needs.{needs}
 use Rattle.runfile.proofs.Files.{move-read}
 use Rattle.runfile.proofs.moves.written_move.Statement.{statement}
@@ -37,7 +38,8 @@ cast-t11 c = search needs
 returns : tie.Need-returns
 returns c =
     let a = c .before .before .before .before .args in
-    move-read (a .file .now) (a .k) _ _ _ (c .before .before .one-at .ensures) (c .before .one-at2 .ensures) (c .two-at .ensures)
+    move-read (a .file .now) (a .k) _ _ _ (c .before .before .one-at .ensures) (c .before .one-at2 .ensures)
+    (c .two-at .ensures)
 
 pub written-move-spec : {M : Type 1} → statement M
 written-move-spec =
