@@ -2,4 +2,5 @@
 pub mod Values
 pub mod Starting
 pub mod OneMove
+pub mod Tallies
 pub mod Runs

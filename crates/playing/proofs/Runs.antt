@@ -1,10 +1,12 @@
--- The area after a run file's run is the area after its accepted calls, so the demands speak of it. Assumes nothing.
+-- A run file's run is the run of its accepted calls: the area, the answers and the tally, so the demands speak of it.
+-- Assumes nothing.
 use mathlib.Core.Path.{_≡_, refl, sym, ap, subst, _∙_}
 use mathlib.Core.Logic.{_≢_}
-use mathlib.Core.Bool.{cond}
+use mathlib.Core.Bool.{Bool, true, false, cond}
 use mathlib.Core.List.{List, [], _∷_, _++_}
 use Prim.Native.Nat.{ℕ, zero, suc, _+_, _*_}
 use native.Mathlib.Decide.{ℕ-discrete}
+use native.Mathlib.Omega.{arith}
 use lib.Dec.{eqb, leb}
 use lib.ListN.{length}
 use Rattle.register.specs.Table.{total}
@@ -18,9 +20,12 @@ use Rattle.register.proofs.Making.{fresh-length}
 use Rattle.runfile.specs.Bytes.{words-at}
 use Rattle.runfile.specs.RunFile.{readers, capacity, moves, values, values-at, starting-record}
 use Rattle.runfile.specs.RunFile.{written, Asked, nothing, values-for, move, asked}
-use Rattle.playing.specs.Play.{State, answer-of, played, next, state-after, first-state, run-state}
+use Rattle.tally.specs.Tally.{no-tally}
+use Rattle.playing.specs.Play.{State, answer-of, played, next, answers, state-after, first-state, run-state}
+use Rattle.playing.specs.Play.{run-answers, run-tally}
 use Rattle.playing.specs.Play.{call-of, accepted-call, accepted-calls}
-use Rattle.playing.specs.Promise.{PlaysARun}
+use Rattle.playing.specs.Promise.{answers-to, accepted-only, greatest-age, PlaysARun}
+use Rattle.playing.proofs.Tallies.{Adds, adds, answers-length, answers-to-length}
 use Rattle.playing.proofs.Starting.{short, well, started}
 
 -- ---- one move
@@ -29,41 +34,49 @@ use Rattle.playing.proofs.Starting.{short, well, started}
 refused-stays : (a : List ℕ) (x : Move) → answered a x .number ≢ 0 → answered a x .area ≡ a
 refused-stays a x d = keeps a x .0 d .area
 
--- accepted, it is one accepted call; refused, it changes nothing
-pub record One (a a′ : List ℕ) (l : List Move) : Type 0 where
+-- calls that were accepted one after another, the area that they leave, and their answers among these
+pub record Called (a a′ : List ℕ) (l : List Move) (r : List Answer) : Type 0 where
   pub accepted : Accepted a l
   pub area : after a l ≡ a′
+  pub answers : answers-to a l ≡ accepted-only r
 
-one-call : (a : List ℕ) (x : Move) → answered a x .number ≡ 0 → One a (answered a x .area) (x ∷ [])
-one-call a x z = record { accepted = then z none; area = refl }
+-- accepted, a move is one accepted call
+one-call : (a : List ℕ) (x : Move) → answered a x .number ≡ 0
+    → Called a (answered a x .area) (x ∷ []) (answered a x ∷ [])
+one-call a x z = record { accepted = then z none; area = refl; answers = sym (rw (eqb-equal _ _ z)) }
 
-no-call : (a a′ : List ℕ) → a′ ≡ a → One a a′ []
-no-call a a′ e = record { accepted = none; area = sym e }
+-- refused, it is none, and changes nothing
+no-call : (a : List ℕ) (x : Answer) → x .number ≢ 0 → x .area ≡ a → Called a (x .area) [] (x ∷ [])
+no-call a x d e = record { accepted = none; area = sym e; answers = sym (rw (eqb-other _ _ d)) }
 
 module _ (b : List ℕ) (s : State) where
-  by-number : (x : Answer) (l : List Move) → (x .number ≡ 0 → One (s .area) (x .area) l)
+  by-number : (x : Answer) (l : List Move) → (x .number ≡ 0 → Called (s .area) (x .area) l (x ∷ []))
       → (x .number ≢ 0 → x .area ≡ s .area)
-      → One (s .area) (x .area) (cond (eqb (x .number) 0) l [])
+      → Called (s .area) (x .area) (cond (eqb (x .number) 0) l []) (x ∷ [])
   by-number x l yes-so not-so =
       go (ℕ-discrete (x .number) 0)
     where
-      go : Dec (x .number ≡ 0) → One (s .area) (x .area) (cond (eqb (x .number) 0) l [])
-      go (yes e) = rw (eqb-equal _ _ e) (yes-so e)
-      go (no d) = rw (eqb-other _ _ d) (no-call (s .area) (x .area) (not-so d))
+      go : Dec (x .number ≡ 0) → Called (s .area) (x .area) (cond (eqb (x .number) 0) l []) (x ∷ [])
+      go (yes e) = subst (λ t. Called (s .area) (x .area) (cond t l []) (x ∷ [])) (sym (eqb-equal _ _ e))
+      (yes-so e)
+      go (no d) =
+          subst (λ t. Called (s .area) (x .area) (cond t l []) (x ∷ [])) (sym (eqb-other _ _ d))
+          (no-call (s .area) x d (not-so d))
 
   one : (y : Asked)
-      → One (s .area) (answer-of b s y .area) (cond (eqb (answer-of b s y .number) 0) (call-of b s y) [])
-  one nothing = no-call (s .area) (s .area) refl
+      → Called (s .area) (answer-of b s y .area) (cond (eqb (answer-of b s y .number) 0) (call-of b s y) [])
+      (answer-of b s y ∷ [])
+  one nothing = no-call (s .area) (refused 12 (s .area)) (λ e. absurd (omega arith)) refl
   one (values-for k) =
       let x : Move = write (words-at k b (values-at b + 8 * s .used)) in
       if-true P (leb (s .used + k) (values b)) (answered (s .area) x) (refused 13 (s .area))
       (λ e. by-number (answered (s .area) x) (x ∷ []) (one-call (s .area) x) (refused-stays (s .area) x))
-      (λ e. no-call (s .area) (s .area) refl)
+      (λ e. no-call (s .area) (refused 13 (s .area)) (λ z. absurd (omega arith)) refl)
     where
       P : Answer → Type 0
       P z =
-          One (s .area) (z .area)
-          (cond (eqb (z .number) 0) (write (words-at k b (values-at b + 8 * s .used)) ∷ []) [])
+          Called (s .area) (z .area)
+          (cond (eqb (z .number) 0) (write (words-at k b (values-at b + 8 * s .used)) ∷ []) []) (z ∷ [])
   one (move x) = by-number (answered (s .area) x) (x ∷ []) (one-call (s .area) x) (refused-stays (s .area) x)
 
 -- ---- the whole run
@@ -78,21 +91,38 @@ after-joined : (a a′ : List ℕ) (l k : List Move) → after a l ≡ a′ → 
 after-joined a a′ [] k e = ap (λ y. after y k) e
 after-joined a a′ (x ∷ l) k e = after-joined (answered a x .area) a′ l k e
 
-whole : (b : List ℕ) (k i : ℕ) (s : State) → One (s .area) (state-after b k i s .area) (accepted-calls b k i s)
-unfolding played
-whole b zero i s = record { accepted = none; area = refl }
-whole b (suc k) i s =
-    let first = one b s (asked (readers b) (written b i)) in
-    let rest = whole b k (suc i) (next b s (written b i)) in
-    let first-calls = accepted-call b s (written b i) in
-    let rest-calls = accepted-calls b k (suc i) (next b s (written b i)) in
+answers-joined : (a a′ : List ℕ) (l k : List Move) → after a l ≡ a′
+    → answers-to a (l ++ k) ≡ answers-to a l ++ answers-to a′ k
+answers-joined a a′ [] k e = ap (λ y. answers-to y k) e
+answers-joined a a′ (x ∷ l) k e =
+    ap {B = List Answer} (λ y. answered a x ∷ y) (answers-joined (answered a x .area) a′ l k e)
+
+accepted-joined : (x : Answer) (r : List Answer) → accepted-only (x ∷ []) ++ accepted-only r ≡ accepted-only
+    (x ∷ r)
+accepted-joined x r = go (eqb (x .number) 0)
+  where
+    go : (t : Bool) → cond t (x ∷ []) [] ++ accepted-only r ≡ cond t (x ∷ accepted-only r) (accepted-only r)
+    go true = refl
+    go false = refl
+
+behind : (a a′ a″ : List ℕ) (l k : List Move) (x : Answer) (r : List Answer) → Called a a′ l (x ∷ [])
+    → Called a′ a″ k r → Called a a″ (l ++ k) (x ∷ r)
+behind a a′ a″ l k x r first rest =
     record {
-      accepted =
-          joined (s .area) (next b s (written b i) .area) first-calls rest-calls (first .accepted) (first .area)
-          (rest .accepted);
-      area = after-joined (s .area) (next b s (written b i) .area) first-calls rest-calls (first .area)
-          ∙ rest .area;
+      accepted = joined a a′ l k (first .accepted) (first .area) (rest .accepted);
+      area = after-joined a a′ l k (first .area) ∙ rest .area;
+      answers =
+          answers-joined a a′ l k (first .area) ∙ ap (λ y. y ++ answers-to a′ k) (first .answers)
+          ∙ ap (λ y. accepted-only (x ∷ []) ++ y) (rest .answers) ∙ accepted-joined x r;
     }
+
+whole : (b : List ℕ) (k i : ℕ) (s : State)
+    → Called (s .area) (state-after b k i s .area) (accepted-calls b k i s) (answers b k i s)
+unfolding played
+whole b zero i s = record { accepted = none; area = refl; answers = refl }
+whole b (suc k) i s =
+    behind (s .area) (next b s (written b i) .area) _ (accepted-call b s (written b i)) _ _ _
+    (one b s (asked (readers b) (written b i))) (whole b k (suc i) (next b s (written b i)))
 
 -- ---- it is a run of the demands
 
@@ -113,7 +143,14 @@ plays-a-run b e =
       its-capacity = refl;
       its-record = refl;
       its-moves = refl;
+      its-answers = ap (λ a. answers-to a calls) same ∙ all .answers;
       its-area = ap (λ a. after a calls) same ∙ all .area;
+      its-accepted =
+          omega (arith, counts .accepted, ap length (all .answers), answers-to-length (first-state b .area) calls);
+      its-refusals = omega (arith, counts .all, answers-length b (moves b) 0 (first-state b));
+      its-greatest =
+          omega (arith, counts .greatest, ap greatest-age (all .answers),
+          ap (λ a. greatest-age (answers-to a calls)) same);
     }
   where
     n : ℕ
@@ -125,7 +162,8 @@ plays-a-run b e =
     v : List ℕ
     v = starting-record b
 
-    all : One (first-state b .area) (run-state b .area) (accepted-calls b (moves b) 0 (first-state b))
+    all : Called (first-state b .area) (run-state b .area) (accepted-calls b (moves b) 0 (first-state b))
+    (run-answers b)
     all = whole b (moves b) 0 (first-state b)
 
     calls : List Move
@@ -136,3 +174,6 @@ plays-a-run b e =
 
     same : made 1 n c v (fresh n c v) .area ≡ fresh n c v
     same = started b e (fresh n c v) exact
+
+    counts : Adds no-tally (run-tally b) (run-answers b)
+    counts = adds no-tally (run-answers b)

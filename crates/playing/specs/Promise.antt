@@ -1,20 +1,44 @@
--- What a run file's run has to do with the demands: it is a run of its accepted calls. Assumes nothing.
+-- What a run file's run has to do with the demands: it is a run of its accepted calls, the same answers were given
+-- to them, and the tally is theirs. Assumes nothing.
 use mathlib.Core.Path.{_≡_}
-use mathlib.Core.Bool.{true}
-use mathlib.Core.List.{List}
-use Prim.Native.Nat.{ℕ}
-use Rattle.register.specs.Demands.{Run, now}
+use mathlib.Core.Bool.{true, cond}
+use mathlib.Core.List.{List, [], _∷_}
+use Prim.Native.Nat.{ℕ, _+_, max}
+use lib.Dec.{eqb}
+use lib.ListN.{length}
+use Rattle.register.specs.Steps.{Move}
+use Rattle.register.specs.Calls.{Answer, answered}
+use Rattle.register.specs.Demands.{Run, beginning, now}
 use Rattle.runfile.specs.RunFile.{readers, capacity, moves, starting-record, is-run-file}
-use Rattle.playing.specs.Play.{first-state, run-state, accepted-calls}
+use Rattle.playing.specs.Play.{first-state, run-answers, run-state, run-tally, accepted-calls}
 
--- a run of the demands whose moves are the accepted calls and whose area at the end is the one that was played
+-- the answers to calls, one after another
+abbrev pub answers-to : List ℕ → List Move → List Answer
+answers-to a [] = []
+answers-to a (x ∷ l) = answered a x ∷ answers-to (answered a x .area) l
+
+-- the answers that are no refusals
+abbrev pub accepted-only : List Answer → List Answer
+accepted-only [] = []
+accepted-only (x ∷ l) = cond (eqb (x .number) 0) (x ∷ accepted-only l) (accepted-only l)
+
+abbrev pub greatest-age : List Answer → ℕ
+greatest-age [] = 0
+greatest-age (x ∷ l) = max (x .age) (greatest-age l)
+
+-- a run of the demands whose moves are the accepted calls, whose answers are those that were played, whose area at the
+-- end, and so whose current word, is the one that was played, and whose tally is the one that was counted
 pub record Played (b : List ℕ) : Type 0 where
   pub run : Run
   pub its-readers : run .n ≡ readers b
   pub its-capacity : run .c ≡ capacity b
   pub its-record : run .first ≡ starting-record b
   pub its-moves : run .moves ≡ accepted-calls b (moves b) 0 (first-state b)
+  pub its-answers : answers-to (beginning run) (run .moves) ≡ accepted-only (run-answers b)
   pub its-area : now run ≡ run-state b .area
+  pub its-accepted : run-tally b .accepted ≡ length (run .moves)
+  pub its-refusals : run-tally b .accepted + run-tally b .refusals ≡ moves b
+  pub its-greatest : run-tally b .greatest ≡ greatest-age (answers-to (beginning run) (run .moves))
 
 abbrev pub PlaysARun : Type 0
 PlaysARun = (b : List ℕ) → is-run-file b ≡ true → Played b
