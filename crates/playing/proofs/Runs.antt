@@ -57,8 +57,8 @@ module _ (b : List ℕ) (s : State) where
       go (ℕ-discrete (x .number) 0)
     where
       go : Dec (x .number ≡ 0) → Called (s .area) (x .area) (cond (eqb (x .number) 0) l []) (x ∷ [])
-      go (yes e) = subst (λ t. Called (s .area) (x .area) (cond t l []) (x ∷ [])) (sym (eqb-equal _ _ e))
-      (yes-so e)
+      go (yes e) =
+          subst (λ t. Called (s .area) (x .area) (cond t l []) (x ∷ [])) (sym (eqb-equal _ _ e)) (yes-so e)
       go (no d) =
           subst (λ t. Called (s .area) (x .area) (cond t l []) (x ∷ [])) (sym (eqb-other _ _ d))
           (no-call (s .area) x d (not-so d))

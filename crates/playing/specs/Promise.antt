@@ -26,8 +26,8 @@ abbrev pub greatest-age : List Answer → ℕ
 greatest-age [] = 0
 greatest-age (x ∷ l) = max (x .age) (greatest-age l)
 
--- a run of the demands whose moves are the accepted calls, whose answers are those that were played, whose area at the
--- end, and so whose current word, is the one that was played, and whose tally is the one that was counted
+-- a run of the demands whose moves are the accepted calls and whose answers and area at the end, and so whose current
+-- word, are those that were played; the tally is that of its answers
 pub record Played (b : List ℕ) : Type 0 where
   pub run : Run
   pub its-readers : run .n ≡ readers b
