@@ -149,8 +149,12 @@ plays-a-run b e =
           omega (arith, counts .accepted, ap length (all .answers), answers-to-length (first-state b .area) calls);
       its-refusals = omega (arith, counts .all, answers-length b (moves b) 0 (first-state b));
       its-greatest =
-          omega (arith, counts .greatest, ap greatest-age (all .answers),
-          ap (λ a. greatest-age (answers-to a calls)) same);
+          omega (
+            arith,
+            counts .greatest,
+            ap greatest-age (all .answers),
+            ap (λ a. greatest-age (answers-to a calls)) same,
+          );
     }
   where
     n : ℕ
@@ -163,7 +167,7 @@ plays-a-run b e =
     v = starting-record b
 
     all : Called (first-state b .area) (run-state b .area) (accepted-calls b (moves b) 0 (first-state b))
-    (run-answers b)
+        (run-answers b)
     all = whole b (moves b) 0 (first-state b)
 
     calls : List Move
