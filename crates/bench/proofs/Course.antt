@@ -4,6 +4,7 @@ use mathlib.Core.Path.{_≡_, refl, sym, ap, _∙_}
 use mathlib.Core.List.{List, _++_, append-assoc}
 use mathlib.Core.Bool.{Bool, true, false}
 use Prim.Native.Nat.{ℕ, suc, _+_, _≤_, _<_}
+use native.Mathlib.Nat.{zero-add}
 use native.Mathlib.Numerals.{add-one}
 use native.Mathlib.Omega.{arith}
 use lib.Dec.{eqb}
@@ -78,9 +79,6 @@ pub record Coursing (b a₀ out₀ : List ℕ) (at : ℕ) (a out : List ℕ) (g 
       → put (sheet out (g .end)) (lines-from b k i (state a (g .used)) (as-tally (g .tally)))
       ≡ put (sheet out₀ at) (lines-from b (moves b) 0 (state a₀ (starting-length b)) no-tally)
 
-all-left : {m : ℕ} (k : ℕ) → 0 + k ≡ m → k ≡ m
-all-left k e = omega arith
-
 -- no move yet
 pub coursing-none : (b a out : List ℕ) (at used : ℕ) → used ≡ starting-length b
     → Coursing b a out at a out
@@ -94,7 +92,8 @@ coursing-none b a out at used e =
       few-accepted = omega arith;
       few-refusals = omega arith;
       rest = λ k d. ap (λ u. put (sheet out at) (lines-from b k 0 (state a u) no-tally)) e
-          ∙ ap (λ j. put (sheet out at) (lines-from b j 0 (state a (starting-length b)) no-tally)) (all-left k d);
+          ∙ ap (λ j. put (sheet out at) (lines-from b j 0 (state a (starting-length b)) no-tally))
+          (sym (zero-add k) ∙ d);
     }
 
 module _ {b a₀ out₀ : List ℕ} {at : ℕ} {a out : List ℕ} {g : Progress} {i : ℕ}

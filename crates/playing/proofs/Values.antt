@@ -2,6 +2,7 @@
 use mathlib.Core.Path.{_≡_, refl, sym, ap, _∙_}
 use mathlib.Core.List.{List}
 use Prim.Native.Nat.{ℕ, zero, suc, _+_, _*_, _≤_, _<_}
+use native.Mathlib.Nat.{zero-add}
 use native.Mathlib.Numerals.{add-one}
 use native.Mathlib.Omega.{arith}
 use lib.ListN.{length, set, take, replicate, length-set, length-replicate}
@@ -26,16 +27,13 @@ pub record Taking (b : List ℕ) (used k : ℕ) (a₀ a : List ℕ) (i at : ℕ)
   pub rest : (j : ℕ) → i + j ≡ k → pasted a i (words-at j b (place b at)) ≡ pasted a₀ 0
       (words-at k b (place b used))
 
-all-left : {k : ℕ} (j : ℕ) → 0 + j ≡ k → j ≡ k
-all-left j e = omega arith
-
 pub taking-none : (b : List ℕ) (used k : ℕ) (a : List ℕ) → Taking b used k a a 0 used
 taking-none b used k a =
     record {
       within = omega arith;
       as-many = refl;
       place-of-next = omega arith;
-      rest = λ j e. ap (λ l. pasted a 0 (words-at l b (place b used))) (all-left j e);
+      rest = λ j e. ap (λ l. pasted a 0 (words-at l b (place b used))) (sym (zero-add j) ∙ e);
     }
 
 module _ {b : List ℕ} {used k : ℕ} {a₀ a : List ℕ} {i at : ℕ} (x : Taking b used k a₀ a i at) where
