@@ -98,8 +98,10 @@ coursing-none b a out at used e =
 
 module _ {b a₀ out₀ : List ℕ} {at : ℕ} {a out : List ℕ} {g : Progress} {i : ℕ}
     (x : Coursing b a₀ out₀ at a out g i) where
-  pub coursing-room : i ≤ 4294967295 → Room (g .tally)
-  coursing-room h = record { accepted = omega (arith, x .few-accepted); refusals = omega (arith, x .few-refusals) }
+  pub coursing-room : Room (g .tally)
+  coursing-room =
+      let few = x .few in
+      record { accepted = omega (arith, x .few-accepted); refusals = omega (arith, x .few-refusals) }
 
   -- one move more
   pub coursing-more : (a′ out′ : List ℕ) (g′ : Progress) → i < moves b → i + 1 ≤ 4294967295

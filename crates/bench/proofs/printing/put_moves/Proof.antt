@@ -26,7 +26,7 @@ loop-holds c =
     coursing-none (a .file .now) _ _ _ _ (ap (λ h. h .starting) (c .before .header .ensures))
 
 put-next-requires : tie.Need-put-next-requires Inv-loop μ-loop
-put-next-requires c κs = coursing-room (c .before .before .before .before .loop .inv) (omega arith)
+put-next-requires c κs = coursing-room (c .before .before .before .before .loop .inv)
 
 add-i : tie.Need-add-i Inv-loop μ-loop
 add-i c = search needs
