@@ -5,9 +5,8 @@ use crate::lines::put_move;
 use crate::lines::put_refused;
 use crate::types::Progress;
 use area::Layout;
-use board::making;
+use playing::begins::begin_run;
 use playing::moves::play_move;
-use playing::taking::take_values;
 use runfile::file;
 use runfile::moves;
 use tally::Tally;
@@ -22,7 +21,6 @@ ghost use Rattle.runfile.specs.RunFile.{readers, capacity, starting-length, is-
 ghost use Rattle.runfile.specs.RunFile.{moves as RunFile·moves};
 ghost use Rattle.text.specs.Sheet.{sheet, put};
 ghost use Rattle.tally.specs.Tally.{no-tally, Room};
-ghost use Rattle.playing.specs.Play.{first-state};
 ghost use Rattle.bench.specs.Printed.{lines-from, run-text, printed};
 ghost use Rattle.playing.specs.Code.{state};
 ghost use Rattle.bench.specs.Code.{as-course, course-after};
@@ -58,22 +56,9 @@ fn put_run(file: &[u8], area: &mut [u64], out: &mut [u8]) -> usize
     ensures { λ r. ⌜ sheet (now (out .exit)) r
         ≡ put (sheet (now (out .entry)) 0) (run-text (now (file .entry))) ⌝ }
 {
-    start(file, area);
+    begin_run(file, area);
     let end = put_first(out, 0, file);
     put_moves(file, area, out, end)
-}
-
-// A fresh area with the starting record.
-fn start(file: &[u8], area: &mut [u64])
-    requires { ⌜ is-run-file (now file) ≡ true ⌝ }
-    requires { ⌜ length (now area) ≡ total (form1 (readers (now file)) (capacity (now file))) ⌝ }
-    ensures { λ _. ⌜ now (area .exit) ≡ first-state (now (file .entry)) .area ⌝ }
-{
-    let h = file::header(file);
-    let mut words = [0u64; 32];
-    let k = h.starting as usize;
-    take_values(file, 0, &mut words, k);
-    making::make(1, h.n as u64, h.c as u64, &words[..k], area);
 }
 
 // The lines of the moves and the last line, behind the first one.

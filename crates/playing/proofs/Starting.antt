@@ -1,13 +1,13 @@
 -- The area that a run starts with is made of words of the right number. Assumes nothing.
-use mathlib.Core.Path.{_≡_, ap, _∙_}
-use mathlib.Core.Bool.{true}
+use mathlib.Core.Path.{_≡_, sym, ap, _∙_}
+use mathlib.Core.Bool.{true, false, cond}
 use mathlib.Core.List.{List}
 use Prim.Native.Nat.{ℕ, _≤_}
 use native.Mathlib.Omega.{arith}
 use lib.ListN.{length, take, replicate}
 use Rattle.register.specs.Table.{total}
 use Rattle.register.specs.Area.{form1}
-use Rattle.register.specs.Calls.{made}
+use Rattle.register.specs.Calls.{Answer, refused, made}
 use Rattle.register.proofs.Made.{made-well, makes}
 use Rattle.answer.specs.Carried.{whole}
 use Rattle.answer.specs.declared.Answer.{Answer as Returned}
@@ -17,7 +17,7 @@ use Rattle.runfile.specs.Code.{header-of}
 use Rattle.runfile.specs.declared.types.Header.{Header}
 use Rattle.runfile.proofs.Files.{FileFacts, file-facts}
 use Rattle.text.specs.Sheet.{pasted}
-use Rattle.playing.specs.Play.{first-state}
+use Rattle.playing.specs.Play.{begun, first-state}
 use Rattle.playing.proofs.Values.{place, words-length, front-words}
 
 module _ (b : List ℕ) (e : is-run-file b ≡ true) where
@@ -44,17 +44,32 @@ module _ (b : List ℕ) (e : is-run-file b ≡ true) where
   few-starting h head = omega (arith, ap (λ z. z .starting) head, facts .short, facts .few-words)
 
   -- so it is where the record was taken into 32 words
-  pub started-with : (a a′ l : List ℕ) (h : Header) (r : Returned)
-      → length a ≡ total (form1 (readers b) (capacity b))
-      → h ≡ header-of b → l ≡ pasted (replicate 32 0) 0 (words-at (h .starting) b (place b 0))
-      → whole r a′ ≡ made 1 (h .n) (h .c) (take (h .starting) l) a → a′ ≡ first-state b .area
-  started-with a a′ l h r exact head full called =
-      ap (λ y. y .area) called
-      ∙ ap (λ v. made 1 (h .n) (h .c) v a .area)
-      (front-words 32 (h .starting) b (place b 0) l (few-starting h head) full)
-      ∙ ap (λ z. made 1 (z .n) (z .c) (words-at (z .starting) b (place b 0)) a .area) head
-      ∙ ap (λ i. made 1 (readers b) (capacity b) (words-at (starting-length b) b i) a .area) at-once
-      ∙ started a exact
+  pub begun-with : (a a′ l : List ℕ) (h : Header) (r : Returned) → h ≡ header-of b
+      → l ≡ pasted (replicate 32 0) 0 (words-at (h .starting) b (place b 0))
+      → whole r a′ ≡ made 1 (h .n) (h .c) (take (h .starting) l) a → whole r a′ ≡ begun b a
+  unfolding begun
+  begun-with a a′ l h r head full called =
+      called
+      ∙ ap (λ v. made 1 (h .n) (h .c) v a) (front-words 32 (h .starting) b (place b 0) l (few-starting h head) full)
+      ∙ ap (λ z. made 1 (z .n) (z .c) (words-at (z .starting) b (place b 0)) a) head
+      ∙ ap (λ i. made 1 (readers b) (capacity b) (words-at (starting-length b) b i) a) at-once
+      ∙ sym (rw e)
     where
       at-once : place b 0 ≡ values-at b
       at-once = omega arith
+
+  -- on words of the right number it is the first state
+  pub begun-first : (a a′ : List ℕ) (r : Returned) → length a ≡ total (form1 (readers b) (capacity b))
+      → whole r a′ ≡ begun b a → a′ ≡ first-state b .area
+  unfolding begun
+  begun-first a a′ r exact called =
+      ap (λ y. y .area) called
+      ∙ ap (λ t. cond {A = Answer} t (made 1 (readers b) (capacity b) (starting-record b) a) (refused 11 a) .area) e
+      ∙ started a exact
+
+-- ---- what is no run file
+
+pub not-begun : (b a : List ℕ) (r : Returned) → is-run-file b ≡ false
+    → r ≡ record { number = 11; ended = false; age = 0 } → whole r a ≡ begun b a
+unfolding begun
+not-begun b a r e d = ap (λ z. whole z a) d ∙ sym (rw e)

@@ -4,9 +4,10 @@ use mathlib.Core.List.{List, [], _∷_, _++_}
 use Prim.Native.Nat.{ℕ, zero, suc, _+_, _*_}
 use lib.Dec.{eqb, leb}
 use Rattle.register.specs.Steps.{Move, write}
-use Rattle.register.specs.Calls.{Answer, refused, fresh, answered}
+use Rattle.register.specs.Calls.{Answer, refused, fresh, made, answered}
 use Rattle.runfile.specs.Bytes.{words-at}
 use Rattle.runfile.specs.RunFile.{readers, capacity, moves, values, values-at, starting-length, starting-record}
+use Rattle.runfile.specs.RunFile.{is-run-file}
 use Rattle.runfile.specs.RunFile.{Written, written, Asked, nothing, values-for, move, asked}
 use Rattle.tally.specs.Tally.{Tally, no-tally, counted}
 
@@ -60,6 +61,10 @@ state-after b (suc k) i s = state-after b k (suc i) (next b s (written b i))
 abbrev pub tally-of : Tally → List Answer → Tally
 tally-of t [] = t
 tally-of t (x ∷ l) = tally-of (counted t (x .number) (x .age)) l
+
+-- 11 for what is no run file, then making's own answer
+unfoldable pub begun : List ℕ → List ℕ → Answer
+begun b a = cond (is-run-file b) (made 1 (readers b) (capacity b) (starting-record b) a) (refused 11 a)
 
 -- a fresh area with the starting record, whose values are used up
 abbrev pub first-state : List ℕ → State

@@ -1,4 +1,5 @@
-// One move of a run file, played on an area, on any bytes.
+// A run file played on an area, on any bytes: its begin, and one move.
+pub mod begins;
 pub mod moves;
-pub mod taking;
+mod taking;
 pub mod types;
