@@ -16,9 +16,9 @@ use Rattle.text.specs.Sheet.{Sheet, sheet, put}
 use Rattle.text.proofs.Sheets.{put-twice, then-put}
 use Rattle.tally.specs.Tally.{Tally, no-tally, counted, as-tally, Room}
 use Rattle.playing.specs.Play.{State, played, next, first-state}
-use Rattle.bench.specs.Printed.{answer-line, move-line, first-line, last-line, lines-from, run-text}
+use Rattle.bench.specs.Printed.{answer-line, move-line, first-line, last-line, run-text}
 use Rattle.bench.specs.Printed.{refused-text, printed}
-use Rattle.bench.specs.Code.{Course, as-course, course-after}
+use Rattle.bench.specs.Code.{Course, as-course, course-after, lines-from}
 use Rattle.playing.specs.Code.{as-outcome, state}
 use Rattle.playing.specs.declared.types.Played.{Played}
 use Rattle.bench.specs.declared.types.Progress.{Progress}

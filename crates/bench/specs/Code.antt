@@ -1,10 +1,11 @@
--- What the code's own types stand for in the definitions. Assumes nothing.
-use mathlib.Core.List.{List}
+-- A run as the code goes through it: where it has come to, one move more, and the text that is left. Assumes nothing.
+use mathlib.Core.List.{List, _++_}
 use Prim.Native.Nat.{ℕ}
-use Rattle.playing.specs.Play.{State, played, next}
+use Rattle.playing.specs.Play.{State, played, next, answers, state-after, tally-of}
 use Rattle.playing.specs.Code.{state}
-use Rattle.bench.specs.Printed.{move-line}
+use Rattle.bench.specs.Printed.{move-line, move-lines, last-line}
 use Rattle.runfile.specs.RunFile.{written}
+use Rattle.text.specs.Lines.{Text}
 use Rattle.text.specs.Sheet.{Sheet, sheet, put}
 use Rattle.tally.specs.Tally.{Tally, as-tally, counted}
 use Rattle.bench.specs.declared.types.Progress as code-progress
@@ -28,3 +29,7 @@ course-after b i g =
       text = put (g .text) (move-line b i (g .state));
       tally = counted (g .tally) (x .number) (x .age);
     }
+
+-- the lines of k moves from move i on, and the last line
+abbrev pub lines-from : List ℕ → ℕ → ℕ → State → Tally → Text
+lines-from b k i s t = move-lines b k i s ++ last-line (state-after b k i s .area) (tally-of t (answers b k i s))

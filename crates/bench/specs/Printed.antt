@@ -7,8 +7,8 @@ use Rattle.register.specs.Area.{current, memory}
 use Rattle.register.specs.Calls.{Answer, shown}
 use Rattle.runfile.specs.RunFile.{readers, capacity, moves, is-run-file, Written, written}
 use Rattle.text.specs.Lines.{Text, decimal, line}
-use Rattle.tally.specs.Tally.{Tally, no-tally}
-use Rattle.playing.specs.Play.{State, played, next, answers, state-after, tally-of, first-state}
+use Rattle.tally.specs.Tally.{Tally}
+use Rattle.playing.specs.Play.{State, played, next, first-state, run-state, run-tally}
 
 -- ---- one move
 
@@ -62,13 +62,9 @@ last-line a t =
     line end-word
     (decimal (memory a current) ∷ decimal (t .accepted) ∷ decimal (t .refusals) ∷ decimal (t .greatest) ∷ [])
 
--- the lines of a run's moves from a state on, and the last line
-abbrev pub lines-from : List ℕ → ℕ → ℕ → State → Tally → Text
-lines-from b k i s t =
-    move-lines b k i s ++ last-line (state-after b k i s .area) (tally-of t (answers b k i s))
-
 unfoldable pub run-text : List ℕ → Text
-run-text b = first-line b ++ lines-from b (moves b) 0 (first-state b) no-tally
+run-text b =
+    first-line b ++ (move-lines b (moves b) 0 (first-state b) ++ last-line (run-state b .area) (run-tally b))
 
 abbrev pub refused-text : Text
 refused-text = line refused-word (decimal 11 ∷ [])

@@ -49,12 +49,12 @@ fn put_answer(
         (decimal i ++ behind-blanks (decimal process ∷ (Printed·letter kind ∷ []) ∷ decimal number
         ∷ decimal (one-if ended) ∷ [])) ⌝ }
 {
-    let a = put_number(out, at, i as u64);
-    let b = put_field(out, a, process);
-    let c = put(out, b, b' ');
-    let d = put(out, c, letter(kind));
-    let e = put_field(out, d, number);
-    put_field(out, e, one_if(ended))
+    let end = put_number(out, at, i as u64);
+    let end = put_field(out, end, process);
+    let end = put(out, end, b' ');
+    let end = put(out, end, letter(kind));
+    let end = put_field(out, end, number);
+    put_field(out, end, one_if(ended))
 }
 
 // 1 if so, or else 0.
@@ -101,11 +101,11 @@ pub fn put_first(out: &mut [u8], at: usize, file: &[u8]) -> usize
         ≡ Sheet·put (sheet (now (out .entry)) at) (first-line (now (file .entry))) ⌝ }
 {
     let h = file::header(file);
-    let a = put_all(out, at, b"run");
-    let b = put_field(out, a, h.n as u64);
-    let c = put_field(out, b, h.c as u64);
-    let d = put_field(out, c, h.moves as u64);
-    put(out, d, b'\n')
+    let end = put_all(out, at, b"run");
+    let end = put_field(out, end, h.n as u64);
+    let end = put_field(out, end, h.c as u64);
+    let end = put_field(out, end, h.moves as u64);
+    put(out, end, b'\n')
 }
 
 // The last line of a run.
@@ -113,12 +113,12 @@ pub fn put_last(out: &mut [u8], at: usize, area: &[u64], t: Tally) -> usize
     ensures { λ r. ⌜ sheet (now (out .exit)) r
         ≡ Sheet·put (sheet (now (out .entry)) at) (last-line (now (area .entry)) (as-tally t)) ⌝ }
 {
-    let a = put_all(out, at, b"end");
-    let b = put_field(out, a, current_word(area));
-    let c = put_field(out, b, t.accepted);
-    let d = put_field(out, c, t.refusals);
-    let e = put_field(out, d, t.greatest);
-    put(out, e, b'\n')
+    let end = put_all(out, at, b"end");
+    let end = put_field(out, end, current_word(area));
+    let end = put_field(out, end, t.accepted);
+    let end = put_field(out, end, t.refusals);
+    let end = put_field(out, end, t.greatest);
+    put(out, end, b'\n')
 }
 
 // The current word.
@@ -132,7 +132,7 @@ fn current_word(area: &[u64]) -> u64
 pub fn put_refused(out: &mut [u8], at: usize) -> usize
     ensures { λ r. ⌜ sheet (now (out .exit)) r ≡ Sheet·put (sheet (now (out .entry)) at) refused-text ⌝ }
 {
-    let a = put_all(out, at, b"refused");
-    let b = put_field(out, a, 11);
-    put(out, b, b'\n')
+    let end = put_all(out, at, b"refused");
+    let end = put_field(out, end, 11);
+    put(out, end, b'\n')
 }

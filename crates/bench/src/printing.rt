@@ -21,9 +21,9 @@ ghost use Rattle.runfile.specs.RunFile.{readers, capacity, starting-length, is-
 ghost use Rattle.runfile.specs.RunFile.{moves as RunFile·moves};
 ghost use Rattle.text.specs.Sheet.{sheet, put};
 ghost use Rattle.tally.specs.Tally.{no-tally, Room};
-ghost use Rattle.bench.specs.Printed.{lines-from, run-text, printed};
+ghost use Rattle.bench.specs.Printed.{run-text, printed};
 ghost use Rattle.playing.specs.Code.{state};
-ghost use Rattle.bench.specs.Code.{as-course, course-after};
+ghost use Rattle.bench.specs.Code.{as-course, course-after, lines-from};
 
 // Puts the text of these bytes: that of the run if they are a run file, and one line if not. Returns where it ends.
 pub fn put_text(file: &[u8], out: &mut [u8]) -> usize

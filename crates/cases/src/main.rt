@@ -1,35 +1,45 @@
 // Plays run files and compares each text with the expected one, byte by byte. The arguments name a run file, its text,
 // the next run file, its text, and so on.
+use bench::sizes;
 ghost use Prim.Native.Nat.{_*_, _≤_};
 ghost use Rattle.io.specs.Counts.{Counts};
 
-// The bytes of the file that argument i names, and how many there are.
-fn read_file(i: usize, buf: &mut [u8]) -> usize
-    ensures { λ r. ⌜ Counts r (now (buf .exit)) ⌝ }
-{
+// A descriptor of the file that argument i names, or a negative number.
+fn opened(i: usize) -> i32 {
     let mut path = io::buffer();
     let length = os::arg(i, &mut path);
     if os::errno() != 0 {
-        return 0;
+        return -1;
     }
-    let fd = os::open_read(&path[..length]);
-    if fd < 0 {
-        return 0;
-    }
+    os::open_read(&path[..length])
+}
+
+// The bytes of a file, and how many there are.
+fn read_file(fd: i32, buf: &mut [u8]) -> usize
+    ensures { λ r. ⌜ Counts r (now (buf .exit)) ⌝ }
+{
     let count = io::read_full(fd, buf);
     libc::close(fd);
     count
 }
 
-// Whether the run file that one argument names has the text that another names.
+// Whether both files are there and the text of the first is the second, which must leave room at its end.
 fn holds(run: usize, expected: usize) -> bool {
-    let mut file = [0u8; 24029];
-    let length = read_file(run, &mut file);
-    let mut wanted = [0u8; 160000];
-    let size = read_file(expected, &mut wanted);
-    let mut text = [0u8; 160000];
+    let run_file = opened(run);
+    let text_file = opened(expected);
+    if run_file < 0 {
+        return false;
+    }
+    if text_file < 0 {
+        return false;
+    }
+    let mut file = [0u8; sizes::FILE];
+    let length = read_file(run_file, &mut file);
+    let mut wanted = [0u8; sizes::TEXT];
+    let size = read_file(text_file, &mut wanted);
+    let mut text = [0u8; sizes::TEXT];
     let end = bench::printing::put_text(&file[..length], &mut text);
-    text::same(&text[..end], &wanted[..size])
+    (end < sizes::TEXT) & text::same(&text[..end], &wanted[..size])
 }
 
 // 1 for a case that holds; one that does not is told by its name, and counts 0.

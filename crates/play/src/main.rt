@@ -1,8 +1,14 @@
 // The bench: reads a run file from standard input and prints what its run did. All that matters is in `bench`.
+use bench::sizes;
+
 fn main() {
-    let mut file = [0u8; 24029];
+    let mut file = [0u8; sizes::FILE];
     let length = io::read_full(0, &mut file);
-    let mut text = [0u8; 160000];
+    let mut text = [0u8; sizes::TEXT];
     let end = bench::printing::put_text(&file[..length], &mut text);
+    if end == sizes::TEXT {
+        io::write_all(2, b"play: the text is too long\n");
+        return;
+    }
     io::write_all(1, &text[..end]);
 }

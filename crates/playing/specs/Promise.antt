@@ -27,8 +27,9 @@ greatest-age [] = 0
 greatest-age (x ∷ l) = max (x .age) (greatest-age l)
 
 -- a run of the demands whose moves are the accepted calls and whose answers and area at the end, and so whose current
--- word, are those that were played; the tally is that of its answers
-pub record Played (b : List ℕ) : Type 0 where
+-- word, are those that were played; the tally is that of its answers. An answer has the area that the call left, so what
+-- is printed of a read is what the run's history tells of it
+pub record PlayedRun (b : List ℕ) : Type 0 where
   pub run : Run
   pub its-readers : run .n ≡ readers b
   pub its-capacity : run .c ≡ capacity b
@@ -41,4 +42,4 @@ pub record Played (b : List ℕ) : Type 0 where
   pub its-greatest : run-tally b .greatest ≡ greatest-age (answers-to (beginning run) (run .moves))
 
 abbrev pub PlaysARun : Type 0
-PlaysARun = (b : List ℕ) → is-run-file b ≡ true → Played b
+PlaysARun = (b : List ℕ) → is-run-file b ≡ true → PlayedRun b

@@ -9,7 +9,7 @@ use runfile::file;
 use runfile::moves;
 use runfile::types::Asked;
 ghost use mathlib.Core.Path.{_≡_};
-ghost use Prim.Native.Nat.{_<_};
+ghost use Prim.Native.Nat.{min};
 ghost use Rattle.runfile.specs.RunFile.{written, values-for};
 ghost use Rattle.playing.specs.Play.{outcome};
 ghost use Rattle.playing.specs.Play.{played as Play·played};
@@ -26,13 +26,13 @@ pub fn play_move(file: &[u8], k: u32, area: &mut [u64], used: u64) -> Played
     let Asked::Step(p) = m else {
         let Asked::Read(r) = m else {
             let Asked::Values(len) = m else {
-                return answered(answer::refusal(12), used);
+                return told(answer::refusal(12), used);
             };
             return play_write(file, len, area, used);
         };
-        return answered(reads::begin_read(area, r), used);
+        return told(reads::begin_read(area, r), used);
     };
-    answered(steps::step(area, p), used)
+    told(steps::step(area, p), used)
 }
 
 // A begin of a write of the next values, where so many are left. A record of more than 256 words is longer than any
@@ -44,30 +44,30 @@ fn play_write(file: &[u8], len: u64, area: &mut [u64], used: u64) -> Played
     let h = file::header(file);
     let values = h.values as u64;
     if values < len {
-        return answered(answer::refusal(13), used);
+        return told(answer::refusal(13), used);
     }
     if values - len < used {
-        return answered(answer::refusal(13), used);
+        return told(answer::refusal(13), used);
     }
     let mut words = [0u64; 257];
-    let k = at_most_257(len);
+    let k = words_enough(len);
     take_values(file, used as u32, &mut words, k);
     let x = writes::begin_write(area, &words[..k]);
     if x.number == 0 {
-        return answered(x, used + len);
+        return told(x, used + len);
     }
-    answered(x, used)
+    told(x, used)
 }
 
-// A length, or 257 where it is more.
-fn at_most_257(len: u64) -> usize
-    ensures { λ r. ⌜ r ≡ Prim.Native.Nat.min len 257 ⌝ }
+// How many words of a record tell whether it is too long: all of them, or 257.
+fn words_enough(len: u64) -> usize
+    ensures { λ r. ⌜ r ≡ min len 257 ⌝ }
 {
     if len < 257 { len as usize } else { 257 }
 }
 
 // What a call came to.
-fn answered(x: Answer, used: u64) -> Played
+fn told(x: Answer, used: u64) -> Played
     ensures { λ r. ⌜ r ≡ record { number = x .number; ended = x .ended; age = x .age; used = used } ⌝ }
 {
     Played {

@@ -33,7 +33,8 @@ module _ (b : List ℕ) where
   abbrev pub values-at : ℕ
   values-at = number-at 4 b 24
 
-  -- N 1 to 8, C 1 to 32, at most 4,000 moves and 1,000 values, the offsets as they must be, exactly so many bytes
+  -- a whole header; N 1 to 8, C 1 to 32, I at most C; at most 4,000 moves, at 28; at most 1,000 values, I among them,
+  -- behind the moves; exactly so many bytes
   abbrev pub file-tests : List Bool
   file-tests =
       leb 28 (length b)

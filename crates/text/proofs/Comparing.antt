@@ -1,4 +1,4 @@
--- Texts compared byte by byte: what is left decides what all of them decide; and the answer is equality.
+-- Texts compared byte by byte: what is left decides what all of them decide; and texts that pass are equal.
 -- Assumes nothing.
 use mathlib.Core.Path.{_≡_, refl, sym, ap, _∙_}
 use mathlib.Core.Bool.{Bool, true, false, _&&_}

@@ -21,7 +21,7 @@ pub fn put_all(out: &mut [u8], at: usize, bytes: &[u8]) -> usize
     ensures { λ r. ⌜ sheet (now (out .exit)) r
         ≡ Sheet·put (sheet (now (out .entry)) at) (now (bytes .entry)) ⌝ }
 {
-    let mut end = put_none(out, at);
+    let mut end = end_within(out, at);
     let mut i = 0;
     while i < bytes.len() {
         end = put(out, end, bytes[i]);
@@ -30,8 +30,8 @@ pub fn put_all(out: &mut [u8], at: usize, bytes: &[u8]) -> usize
     end
 }
 
-// Where a text ends that is said to end at `at`: inside the bytes.
-fn put_none(out: &[u8], at: usize) -> usize
+// Where a text ends that is said to end at `at`: within the bytes.
+fn end_within(out: &[u8], at: usize) -> usize
     ensures { λ r. ⌜ sheet (now (out .entry)) r ≡ Sheet·put (sheet (now (out .entry)) at) [] ⌝ }
 {
     if at < out.len() { at } else { out.len() }
@@ -60,7 +60,7 @@ pub fn put_fields(out: &mut [u8], at: usize, words: &[u64]) -> usize
     ensures { λ r. ⌜ sheet (now (out .exit)) r
         ≡ Sheet·put (sheet (now (out .entry)) at) (behind-blanks (map decimal (now (words .entry)))) ⌝ }
 {
-    let mut end = put_none(out, at);
+    let mut end = end_within(out, at);
     let mut i = 0;
     while i < words.len() {
         end = put_field(out, end, words[i]);

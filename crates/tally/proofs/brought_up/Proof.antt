@@ -1,5 +1,4 @@
--- `tally::brought_up` meets its contract: a walk of its MIR, by hand. The tally is copied to a local, which is lent
--- to
+-- `tally::brought_up` meets its contract: a walk of its MIR, by hand. The tally is copied to a local, which is lent to
 -- `count` for a lifetime that is made for the call, taken back at its last value, and returned.
 -- All that the proof knows of `count` is that it meets its contract.
 -- Assumes nothing.

@@ -13,11 +13,11 @@ Inv-loop out₀ at bytes end₀ i₀ out end i = Filling (λ x. x ∷ []) out₀
 abbrev μ-loop : tie.MeasureT-loop
 μ-loop out₀ at bytes end₀ i₀ out end i = length bytes - i
 
-put-none-requires : tie.Need-put-none-requires Inv-loop μ-loop
-put-none-requires c κs = search needs
+end-within-requires : tie.Need-end-within-requires Inv-loop μ-loop
+end-within-requires c κs = search needs
 
 loop-holds : tie.Need-loop-holds Inv-loop μ-loop
-loop-holds c = filling-none _ _ _ _ (c .put-none .ensures)
+loop-holds c = filling-none _ _ _ _ (c .end-within .ensures)
 
 shared-slice-read-put : tie.Need-shared-slice-read-put Inv-loop μ-loop
 shared-slice-read-put c = search needs
@@ -48,7 +48,7 @@ put-all-spec =
     (tie.spec
     Inv-loop
     μ-loop
-    put-none-requires
+    end-within-requires
     loop-holds
     shared-slice-read-put
     put-requires

@@ -14,11 +14,11 @@ Inv-loop out₀ at words end₀ i₀ out end i = Filling (λ x. blank ∷ decima
 abbrev μ-loop : tie.MeasureT-loop
 μ-loop out₀ at words end₀ i₀ out end i = length words - i
 
-put-none-requires : tie.Need-put-none-requires Inv-loop μ-loop
-put-none-requires c κs = search needs
+end-within-requires : tie.Need-end-within-requires Inv-loop μ-loop
+end-within-requires c κs = search needs
 
 loop-holds : tie.Need-loop-holds Inv-loop μ-loop
-loop-holds c = filling-none _ _ _ _ (c .put-none .ensures)
+loop-holds c = filling-none _ _ _ _ (c .end-within .ensures)
 
 mul-put-field : tie.Need-mul-put-field Inv-loop μ-loop
 mul-put-field c = search needs
@@ -54,7 +54,7 @@ put-fields-spec =
     (tie.spec
     Inv-loop
     μ-loop
-    put-none-requires
+    end-within-requires
     loop-holds
     mul-put-field
     shared-slice-read-put-field

@@ -32,14 +32,14 @@ enum-known-m-3 c = search needs
 refusal-requires : tie.Need-refusal-requires
 refusal-requires c κs = search needs
 
-answered-requires : tie.Need-answered-requires
-answered-requires c κs = search needs
+told-requires : tie.Need-told-requires
+told-requires c κs = search needs
 
 returns : tie.Need-returns
 returns c =
     let d = c .before .before .before .before .before in
     let a = d .before .before .before .before .before .before .args in
-    malformed (a .file .now) (a .area .now) (a .used) _ _ (c .before .refusal .ensures) (c .answered .ensures)
+    malformed (a .file .now) (a .area .now) (a .used) _ _ (c .before .refusal .ensures) (c .told .ensures)
     ∙ as-played (a .file .now) (a .area .now) (a .used) (written (a .file .now) (a .k)) _ _ nothing
     (its-readers (a .file .now) (d .before .before .before .header .ensures))
     (d .before .before .written-move .ensures)
@@ -65,8 +65,8 @@ returns-2 c =
 begin-read-requires : tie.Need-begin-read-requires
 begin-read-requires c κs = search needs
 
-answered-requires-2 : tie.Need-answered-requires-2
-answered-requires-2 c κs = search needs
+told-requires-2 : tie.Need-told-requires-2
+told-requires-2 c κs = search needs
 
 same-length-2 : tie.Need-same-length-2
 same-length-2 c = search needs
@@ -76,7 +76,7 @@ returns-3 c =
     let d = c .before .before .before .before .before .before .before .before .before in
     let a = d .before .before .before .before .before .before .args in
     moved (a .file .now) (a .area .now) _ (a .used) _ _ (read _) (c .before .before .before .begin-read .ensures)
-    (c .answered2 .ensures)
+    (c .told2 .ensures)
     ∙ as-played (a .file .now) (a .area .now) (a .used) (written (a .file .now) (a .k)) _ _ (move (read _))
     (its-readers (a .file .now) (d .before .before .before .header .ensures))
     (d .before .before .written-move .ensures)
@@ -85,8 +85,8 @@ returns-3 c =
 step-requires : tie.Need-step-requires
 step-requires c κs = search needs
 
-answered-requires-3 : tie.Need-answered-requires-3
-answered-requires-3 c κs = search needs
+told-requires-3 : tie.Need-told-requires-3
+told-requires-3 c κs = search needs
 
 same-length-3 : tie.Need-same-length-3
 same-length-3 c = search needs
@@ -96,7 +96,7 @@ returns-4 c =
     let d = c .before .before .before .before .before .before .before .before in
     let a = d .before .before .before .before .before .before .args in
     moved (a .file .now) (a .area .now) _ (a .used) _ _ (step _) (c .before .before .before .step .ensures)
-    (c .answered3 .ensures)
+    (c .told3 .ensures)
     ∙ as-played (a .file .now) (a .area .now) (a .used) (written (a .file .now) (a .k)) _ _ (move (step _))
     (its-readers (a .file .now) (d .before .before .before .header .ensures))
     (d .before .before .written-move .ensures)
@@ -114,16 +114,16 @@ play-move-spec =
     enum-known-m-2
     enum-known-m-3
     refusal-requires
-    answered-requires
+    told-requires
     returns
     play-write-requires
     same-length
     returns-2
     begin-read-requires
-    answered-requires-2
+    told-requires-2
     same-length-2
     returns-3
     step-requires
-    answered-requires-3
+    told-requires-3
     same-length-3
     returns-4)

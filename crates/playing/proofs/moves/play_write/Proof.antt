@@ -16,14 +16,14 @@ cast-values c = search needs
 refusal-requires : tie.Need-refusal-requires
 refusal-requires c κs = search needs
 
-answered-requires : tie.Need-answered-requires
-answered-requires c κs = search needs
+told-requires : tie.Need-told-requires
+told-requires c κs = search needs
 
 returns : tie.Need-returns
 returns c =
     let a = c .before .before .before .before .before .before .before .args in
     write-13 (a .file .now) (a .area .now) (a .used) (a .len) _ _ (c .before .refusal .ensures)
-    (c .answered .ensures) (omega (
+    (c .told .ensures) (omega (
       arith,
       its-values (a .file .now)
           (c .before .before .before .before .header .ensures),
@@ -32,21 +32,21 @@ returns c =
 refusal-requires-2 : tie.Need-refusal-requires-2
 refusal-requires-2 c κs = search needs
 
-answered-requires-2 : tie.Need-answered-requires-2
-answered-requires-2 c κs = search needs
+told-requires-2 : tie.Need-told-requires-2
+told-requires-2 c κs = search needs
 
 returns-2 : tie.Need-returns-2
 returns-2 c =
     let a = c .before .before .before .before .before .before .before .before .args in
     write-13 (a .file .now) (a .area .now) (a .used) (a .len) _ _ (c .before .refusal2 .ensures)
-    (c .answered2 .ensures) (omega (
+    (c .told2 .ensures) (omega (
       arith,
       its-values (a .file .now)
           (c .before .before .before .before .before .header .ensures),
     ))
 
-at-most-257-requires : tie.Need-at-most-257-requires
-at-most-257-requires c κs = search needs
+words-enough-requires : tie.Need-words-enough-requires
+words-enough-requires c κs = search needs
 
 cast-take-values : tie.Need-cast-take-values
 cast-take-values c = search needs
@@ -63,7 +63,7 @@ array-share-prefix-words c = search needs
 slice-aggregate-begin-write : tie.Need-slice-aggregate-begin-write
 slice-aggregate-begin-write c =
     let b = c .before .before .before in
-    let k = b .before .before .at-most-257 .result in
+    let k = b .before .before .words-enough .result in
     let a = b .before .before .before .before .before .before .before .before .before .args in
     front-length 257 k _ (words-at k (a .file .now) (place (a .file .now) (a .used))) (omega arith)
     (b .take-values .ensures)
@@ -71,11 +71,11 @@ slice-aggregate-begin-write c =
 begin-write-requires : tie.Need-begin-write-requires
 begin-write-requires c κs = search needs
 
-add-answered : tie.Need-add-answered
-add-answered c = search needs
+add-told : tie.Need-add-told
+add-told c = search needs
 
-answered-requires-3 : tie.Need-answered-requires-3
-answered-requires-3 c κs = search needs
+told-requires-3 : tie.Need-told-requires-3
+told-requires-3 c κs = search needs
 
 same-length : tie.Need-same-length
 same-length c = search needs
@@ -87,11 +87,11 @@ returns-3 c =
     let a = d .before .before .before .before .before .before .before .before .before .args in
     write-accepted (a .file .now) (a .area .now) (a .used) (a .len) _ _ _ _ _
     (omega (arith, its-values (a .file .now) (d .before .before .before .before .before .before .header .ensures)))
-    (d .before .before .at-most-257 .ensures)
-    (d .take-values .ensures) (b .begin-write .ensures) (c .before .if3 .taken) (c .answered3 .ensures)
+    (d .before .before .words-enough .ensures)
+    (d .take-values .ensures) (b .begin-write .ensures) (c .before .if3 .taken) (c .told3 .ensures)
 
-answered-requires-4 : tie.Need-answered-requires-4
-answered-requires-4 c κs = search needs
+told-requires-4 : tie.Need-told-requires-4
+told-requires-4 c κs = search needs
 
 same-length-2 : tie.Need-same-length-2
 same-length-2 c = search needs
@@ -103,8 +103,8 @@ returns-4 c =
     let a = d .before .before .before .before .before .before .before .before .before .args in
     write-refused (a .file .now) (a .area .now) (a .used) (a .len) _ _ _ _ _
     (omega (arith, its-values (a .file .now) (d .before .before .before .before .before .before .header .ensures)))
-    (d .before .before .at-most-257 .ensures)
-    (d .take-values .ensures) (b .begin-write .ensures) (c .before .if3 .left) (c .answered4 .ensures)
+    (d .before .before .words-enough .ensures)
+    (d .take-values .ensures) (b .begin-write .ensures) (c .before .if3 .left) (c .told4 .ensures)
 
 pub play-write-spec : {M : Type 1} → statement M
 play-write-spec =
@@ -113,22 +113,22 @@ play-write-spec =
     header-requires
     cast-values
     refusal-requires
-    answered-requires
+    told-requires
     returns
     refusal-requires-2
-    answered-requires-2
+    told-requires-2
     returns-2
-    at-most-257-requires
+    words-enough-requires
     cast-take-values
     slice-aggregate-take-values
     take-values-requires
     array-share-prefix-words
     slice-aggregate-begin-write
     begin-write-requires
-    add-answered
-    answered-requires-3
+    add-told
+    told-requires-3
     same-length
     returns-3
-    answered-requires-4
+    told-requires-4
     same-length-2
     returns-4)
