@@ -49,11 +49,11 @@ pub extern "C" fn board_make(
     form: u64,
     n: u64,
     c: u64,
-    first: &[u64],
+    record: &[u64],
 ) -> BoardAnswer
-    ensures { λ x. ⌜ (x, now (area .exit)) ≡ in-c (made form n c (now (first .entry)) (now (area .entry))) ⌝ }
+    ensures { λ x. ⌜ (x, now (area .exit)) ≡ in-c (made form n c (now («record» .entry)) (now (area .entry))) ⌝ }
 {
-    as_answer(making::make(form, n, c, first, area))
+    as_answer(making::make(form, n, c, record, area))
 }
 
 // A reader begins a read.
@@ -66,10 +66,10 @@ pub extern "C" fn board_begin_read(area: &mut [u64], reader: u64) -> BoardAnswer
 
 // The writer begins a write of a record.
 #[no_mangle]
-pub extern "C" fn board_begin_write(area: &mut [u64], words: &[u64]) -> BoardAnswer
-    ensures { λ x. ⌜ (x, now (area .exit)) ≡ in-c (write-begun (now (area .entry)) (now (words .entry))) ⌝ }
+pub extern "C" fn board_begin_write(area: &mut [u64], record: &[u64]) -> BoardAnswer
+    ensures { λ x. ⌜ (x, now (area .exit)) ≡ in-c (write-begun (now (area .entry)) (now («record» .entry))) ⌝ }
 {
-    as_answer(writes::begin_write(area, words))
+    as_answer(writes::begin_write(area, record))
 }
 
 // One step of a process: a reader below N, the writer at N.

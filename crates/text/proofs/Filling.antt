@@ -4,11 +4,11 @@ use mathlib.Core.List.{List, [], _∷_, _++_, map}
 use Prim.Native.Nat.{ℕ, suc, _+_, _≤_, _<_}
 use native.Mathlib.Numerals.{add-one}
 use native.Mathlib.Omega.{arith}
-use lib.ListN.{length, getD, drop, drop-of-length-le}
+use lib.ListN.{length, getD, take, drop, drop-of-length-le}
 use lib.Seq.{drop-cons}
 use Rattle.text.specs.Lines.{Text, blank, decimal, behind-blanks}
-use Rattle.text.specs.Sheet.{put, sheet}
-use Rattle.text.proofs.Sheets.{pasted-length, put-twice, put-nothing}
+use Rattle.text.specs.Sheet.{pasted, put, sheet}
+use Rattle.text.proofs.Sheets.{pasted-length, pasted-front, put-twice, put-nothing}
 
 -- what was put lies inside the bytes, and there are as many bytes
 pub put-length : (l : List ℕ) (i : ℕ) (t : Text) {k : List ℕ} {j : ℕ} → sheet k j ≡ put (sheet l i) t
@@ -23,6 +23,16 @@ put-inside l i t {k} {j} e =
     let many = ap (λ s. length (s .bytes)) e ∙ pasted-length l i t in
     let ends = ap (λ s. s .end) e in
     omega arith
+
+-- a text that ends before the bytes do is whole
+pub put-whole : (l : List ℕ) (t : Text) {k : List ℕ} {j : ℕ} → sheet k j ≡ put (sheet l 0) t
+    → j < length k → take j k ≡ t
+unfolding put
+put-whole l t {k} {j} e h =
+    let many = put-length l 0 t e in
+    let ends = ap (λ s. s .end) e in
+    let all : j ≡ length t = omega arith in
+    ap (take j) (ap (λ s. s .bytes) e) ∙ ap (λ i. take i (pasted l 0 t)) all ∙ pasted-front l t (omega arith)
 
 -- a piece for each number of a list
 abbrev pub pieces : (ℕ → Text) → List ℕ → Text
