@@ -51,7 +51,8 @@ pub extern "C" fn board_make(
     c: u64,
     record: &[u64],
 ) -> BoardAnswer
-    ensures { λ x. ⌜ (x, now (area .exit)) ≡ in-c (made form n c (now («record» .entry)) (now (area .entry))) ⌝ }
+    ensures { λ x. ⌜ (x, now (area .exit))
+        ≡ in-c (made form n c (now («record» .entry)) (now (area .entry))) ⌝ }
 {
     as_answer(making::make(form, n, c, record, area))
 }
@@ -67,7 +68,8 @@ pub extern "C" fn board_begin_read(area: &mut [u64], reader: u64) -> BoardAnswer
 // The writer begins a write of a record.
 #[no_mangle]
 pub extern "C" fn board_begin_write(area: &mut [u64], record: &[u64]) -> BoardAnswer
-    ensures { λ x. ⌜ (x, now (area .exit)) ≡ in-c (write-begun (now (area .entry)) (now («record» .entry))) ⌝ }
+    ensures { λ x. ⌜ (x, now (area .exit))
+        ≡ in-c (write-begun (now (area .entry)) (now («record» .entry))) ⌝ }
 {
     as_answer(writes::begin_write(area, record))
 }
