@@ -1,5 +1,5 @@
-/* A worker is paused in the middle of a read while the guard writes twice. It still gets one whole record: the one
- * that was current when it counted itself in, with its age. Exits with 1 if the record that is shown is not whole. */
+/* A worker is paused in the middle of a read while the guard writes twice. It still gets one whole record:
+ * the one that was current when it counted itself in, with its age. Exits with 1 if what is shown is not. */
 #include <inttypes.h>
 #include <stdio.h>
 #include <stdlib.h>
@@ -52,7 +52,7 @@ int main(void) {
     printf("worker.c: read");
     for (uint64_t i = 0; i < place.len; i++) printf(" %" PRIu64, area[place.at + i]);
     printf(", age %" PRIu64 "\n", age);
-    int whole = place.yes == 1 && place.len == WORDS && memcmp(area + place.at, old, sizeof old) == 0 && age == 2;
+    int same = place.len == WORDS && memcmp(area + place.at, old, sizeof old) == 0;
     free(area);
-    return whole ? 0 : 1;
+    return place.yes == 1 && same && age == 2 ? 0 : 1;
 }

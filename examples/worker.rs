@@ -1,5 +1,5 @@
-//! A worker is paused in the middle of a read while the guard writes twice. It still gets one whole record: the one
-//! that was current when it counted itself in, with its age. Exits with 1 if the record that is shown is not whole.
+//! A worker is paused in the middle of a read while the guard writes twice. It still gets one whole record:
+//! the one that was current when it counted itself in, with its age. Exits with 1 if what is shown is not.
 
 #[repr(C)]
 struct Answer {
@@ -9,15 +9,13 @@ struct Answer {
 }
 
 #[repr(C)]
-struct Place {
-    yes: u64,
-    at: u64,
-    len: u64,
-}
+struct Place(u64, u64, u64); // yes, at, len
 
 // include/board.h says what each call takes and returns. A slice's own pointer and length are always taken.
 extern "C" {
-    fn board_make(area: *mut u64, words: usize, form: u64, n: u64, c: u64, record: *const u64, len: usize) -> Answer;
+    fn board_make(
+        area: *mut u64, words: usize, form: u64, n: u64, c: u64, record: *const u64, len: usize,
+    ) -> Answer;
     fn board_begin_read(area: *mut u64, words: usize, reader: u64) -> Answer;
     fn board_begin_write(area: *mut u64, words: usize, record: *const u64, len: usize) -> Answer;
     fn board_step(area: *mut u64, words: usize, process: u64) -> Answer;
@@ -44,7 +42,8 @@ fn publish(area: &mut [u64], record: &[u64]) {
 fn main() {
     let (first, old) = ([1, 1, 100], [2, 2, 200]);
     let mut area = vec![0; unsafe { board_words(1, READERS, 3) } as usize];
-    let made = unsafe { board_make(area.as_mut_ptr(), area.len(), 1, READERS, 3, first.as_ptr(), first.len()) };
+    let made =
+        unsafe { board_make(area.as_mut_ptr(), area.len(), 1, READERS, 3, first.as_ptr(), first.len()) };
     publish(&mut area, &old);
     let begun = unsafe { board_begin_read(area.as_mut_ptr(), area.len(), 0) };
     assert_eq!((made.number, begun.number), (0, 0));
@@ -52,8 +51,8 @@ fn main() {
     publish(&mut area, &[3, 3, 300]);
     publish(&mut area, &[4, 4, 400]);
     let age = (0..2).find_map(|_| step(&mut area, 0)).expect("two words are left to copy");
-    let place = unsafe { board_show(area.as_ptr(), area.len(), 0) };
-    let shown = &area[place.at as usize..][..place.len as usize];
+    let Place(yes, at, len) = unsafe { board_show(area.as_ptr(), area.len(), 0) };
+    let shown = &area[at as usize..][..len as usize];
     println!("worker.rs: read {shown:?}, age {age}");
-    std::process::exit(if place.yes == 1 && shown == old && age == 2 { 0 } else { 1 });
+    std::process::exit(if yes == 1 && shown == old && age == 2 { 0 } else { 1 });
 }

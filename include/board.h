@@ -1,19 +1,20 @@
-/* The record board for C: one area of 64-bit words, one writer, N readers (N is 1 to 64), records of 0 to C words
- * (C is 1 to 256). The readers are processes 0 to N - 1, the writer is process N. A begin starts a read or a write;
- * each board_step of its process makes one small step of it, until an answer says that it ended.
+/* The record board for C: one area of 64-bit words, one writer, N readers (N is 1 to 64), records of 0 to C
+ * words (C is 1 to 256). The readers are processes 0 to N - 1, the writer is process N. A begin starts a read
+ * or a write; each board_step of its process makes one small step of it, until an answer says that it ended.
  *
- * The library is `rt staticlib board_c`, for x86-64 Linux. It is written in Rattle (crates/board_c) and proved: on
- * any input each call returns, and leaves in every word, what one definition of crates/register says. The calls
- * never allocate, never keep a pointer, print nothing, do not panic, and end.
+ * The library is `rt staticlib board_c`, for x86-64 Linux. It is written in Rattle (crates/board_c) and
+ * proved: on any input each call returns, and leaves in every word, what one definition of crates/register
+ * says. The calls never allocate, never keep a pointer, print nothing, do not panic, and end.
  *
- * What may be handed in: anything. Any words, damaged ones too, any form, n, c, reader and process, any lengths.
- * What is wrong is refused by its number, and a refusal changes no word. The memory alone is the caller's to see to:
+ * What may be handed in: anything. Any words, damaged ones too, any form, n, c, reader and process, any
+ * lengths. What is wrong is refused by its number, and a refusal changes no word. The memory alone is the
+ * caller's to see to:
  *   - area points to `words` words and record to `len` words, both aligned to 8 bytes;
  *   - both may be read, and area may be written, for as long as the call lasts (board_show writes nothing);
  *   - record does not overlap area;
- *   - while a call runs nobody else writes record or area, nor reads area, unless the call is board_show. So no two
- *     calls on one area run at the same time: a step is indivisible here. Between two calls a process may be paused
- *     for as long as it likes, and any order of the processes' steps is safe;
+ *   - while a call runs nobody else writes record or area, nor reads area, unless the call is board_show. So
+ *     no two calls on one area run at the same time: a step is indivisible here. Between two calls a process
+ *     may be paused for as long as it likes, and any order of the processes' steps is safe;
  *   - where the length is 0 the pointer may be anything, NULL too: nothing is read or stored through it.
  */
 #ifndef BOARD_H
@@ -27,7 +28,7 @@ extern "C" {
 #endif
 
 /* number is 0 where the call was accepted, or else the refusal's:
- *    1  not an area: fewer than eight words, a header that is none of an area, or words is not the area's total
+ *    1  not an area: fewer than eight words, a header that is none of an area, or words is not its total
  *    2  damaged, or a step would lift a count above N
  *    3  process above N in a step; reader above N - 1 in a begin
  *    4  record longer than C
@@ -37,25 +38,25 @@ extern "C" {
  *    8  the writer looks at the last slot, and it is not free
  *    9  making: form is not 1, or n or c outside its range
  *   10  making: words is not the area's total
- * Number 8, and 2 for a count, are met only on areas that someone altered. Where several fit, the one that comes
- * first in the order given with the call is returned.
- * ended is 1 if the call ended a read or a write, or else 0. Where a read ended, age is how many writes later than
- * the one it read have ended; in every other answer age is 0. Making and the begins never end anything. */
+ * Number 8, and 2 for a count, are met only on areas that someone altered. Where several fit, the one that
+ * comes first in the order given with the call is returned.
+ * ended is 1 if the call ended a read or a write, or else 0. Where a read ended, age is how many writes later
+ * than the one it read have ended; in every other answer age is 0. Making and the begins end nothing. */
 typedef struct {
     uint64_t number, ended, age;
 } board_answer;
 
-/* yes is 1: the reader's record is the len words area[at], area[at + 1] and so on, and at + len is at most words.
- * Nothing is copied: the words stand there until a later read of that reader copies over them.
+/* yes is 1: the reader's record is the len words area[at], area[at + 1] and so on, and at + len is at most
+ * words. Nothing is copied: the words stand there until a later read of that reader copies over them.
  * yes is 0: there is no record to show, and at and len are 0. */
 typedef struct {
     uint64_t yes, at, len;
 } board_place;
 
-/* Makes a fresh area of the words, for n readers, records of at most c words and a starting record. The only form
- * so far is 1. Refusals, in order: 9, 10, 4. */
-board_answer board_make(uint64_t *area, size_t words, uint64_t form, uint64_t n, uint64_t c, const uint64_t *record,
-                        size_t len);
+/* Makes a fresh area of the words, for n readers, records of at most c words and a starting record. The only
+ * form so far is 1. Refusals, in order: 9, 10, 4. */
+board_answer board_make(uint64_t *area, size_t words, uint64_t form, uint64_t n, uint64_t c,
+                        const uint64_t *record, size_t len);
 
 /* A reader begins a read. Refusals, in order: 1, 2, 3, 5. */
 board_answer board_begin_read(uint64_t *area, size_t words, uint64_t reader);

@@ -20,46 +20,20 @@ pub struct Place {
     pub len: u64,
 }
 
-/// Declares exports that return a struct of three words. C on x86-64 hands such a result back through
-/// a first, hidden argument. The library's module is written for x86-64 and says so itself, so where
-/// it is compiled for another machine (see twin/library) that argument is in plain sight.
-macro_rules! exports {
-    ($(fn $name:ident($($argument:ident: $kind:ty),*) -> $result:ty;)*) => {
-        #[cfg(target_arch = "x86_64")]
-        mod raw {
-            use super::{Answer, Place};
-            extern "C" {
-                $(pub fn $name($($argument: $kind),*) -> $result;)*
-            }
-        }
-        #[cfg(not(target_arch = "x86_64"))]
-        mod raw {
-            use super::{Answer, Place};
-            mod plain {
-                use super::{Answer, Place};
-                extern "C" {
-                    $(pub fn $name(result: *mut $result, $($argument: $kind),*) -> *mut $result;)*
-                }
-            }
-            $(pub unsafe fn $name($($argument: $kind),*) -> $result {
-                let mut result = <$result>::default();
-                plain::$name(&mut result, $($argument),*);
-                result
-            })*
-        }
-    };
-}
-
-exports! {
-    fn board_make(area: *mut u64, words: usize, form: u64, n: u64, c: u64, record: *const u64,
-        len: usize) -> Answer;
+extern "C" {
+    fn board_make(
+        area: *mut u64,
+        words: usize,
+        form: u64,
+        n: u64,
+        c: u64,
+        record: *const u64,
+        len: usize,
+    ) -> Answer;
     fn board_begin_read(area: *mut u64, words: usize, reader: u64) -> Answer;
     fn board_begin_write(area: *mut u64, words: usize, record: *const u64, len: usize) -> Answer;
     fn board_step(area: *mut u64, words: usize, process: u64) -> Answer;
     fn board_show(area: *const u64, words: usize, reader: u64) -> Place;
-}
-
-extern "C" {
     fn board_words(form: u64, n: u64, c: u64) -> u64;
 }
 
@@ -69,27 +43,27 @@ extern "C" {
 /// Makes a fresh area of the lent words.
 pub fn make(area: &mut [u64], form: u64, n: u64, c: u64, record: &[u64]) -> Answer {
     let (from, len) = (record.as_ptr(), record.len());
-    unsafe { raw::board_make(area.as_mut_ptr(), area.len(), form, n, c, from, len) }
+    unsafe { board_make(area.as_mut_ptr(), area.len(), form, n, c, from, len) }
 }
 
 /// A reader begins a read.
 pub fn begin_read(area: &mut [u64], reader: u64) -> Answer {
-    unsafe { raw::board_begin_read(area.as_mut_ptr(), area.len(), reader) }
+    unsafe { board_begin_read(area.as_mut_ptr(), area.len(), reader) }
 }
 
 /// The writer begins a write of a record.
 pub fn begin_write(area: &mut [u64], record: &[u64]) -> Answer {
-    unsafe { raw::board_begin_write(area.as_mut_ptr(), area.len(), record.as_ptr(), record.len()) }
+    unsafe { board_begin_write(area.as_mut_ptr(), area.len(), record.as_ptr(), record.len()) }
 }
 
 /// One step of a process.
 pub fn step(area: &mut [u64], process: u64) -> Answer {
-    unsafe { raw::board_step(area.as_mut_ptr(), area.len(), process) }
+    unsafe { board_step(area.as_mut_ptr(), area.len(), process) }
 }
 
 /// Where the reader's record stands, if there is one to show.
 pub fn show(area: &[u64], reader: u64) -> Place {
-    unsafe { raw::board_show(area.as_ptr(), area.len(), reader) }
+    unsafe { board_show(area.as_ptr(), area.len(), reader) }
 }
 
 /// How many words an area has, or 0 where making would answer 9.

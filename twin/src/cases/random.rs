@@ -8,6 +8,9 @@ use crate::script::Script;
 
 const SIZES: [u64; 3] = [1, 2, 5];
 const LONG: usize = 280;
+/// The most moves and the most values that a run file may have.
+const MOST_MOVES: usize = 4_000;
+const MOST_VALUES: u64 = 1_000;
 
 pub fn cases() -> Vec<Case> {
     let mut cases = Vec::new();
@@ -24,12 +27,14 @@ pub fn cases() -> Vec<Case> {
             cases.push(Case::new(name, wild(n, &mut Random(5000 + 10 * u64::from(n) + seed))));
         }
     }
-    cases.push(Case::new("limit-m4000-v1000", longest()));
+    cases.push(Case::new("limit-m4000-v1000", longest(3, 2, 12)));
+    cases.push(Case::new("limit-n8-c32-m4000-v1000", longest(8, 32, 40)));
     cases
 }
 
 /// Moves that a careful caller makes: an idle process begins, a busy one steps, in turns of
-/// random length. Now and then a begin of a busy process or a step of an idle one.
+/// random length. Now and then a begin of a busy process or a step of an idle one. No write begins
+/// once the values might not be enough for it.
 fn lively(script: &mut Script, random: &mut Random, moves: usize, turn: u64) {
     let (n, c) = (script.run.n, script.run.c);
     while script.run.moves.len() < moves {
@@ -43,6 +48,9 @@ fn lively(script: &mut Script, random: &mut Random, moves: usize, turn: u64) {
             if script.idle(process) == astray {
                 script.steps(process, 1);
             } else if u64::from(process) == n {
+                if script.run.values.len() as u64 + c > MOST_VALUES {
+                    break;
+                }
                 let length = random.upto(c);
                 script.write(&record(script.writes_ended() + 1, length));
             } else {
@@ -73,11 +81,11 @@ fn wild(n: u8, random: &mut Random) -> Vec<u8> {
 }
 
 /// As many moves and as many values as a file may have.
-fn longest() -> Vec<u8> {
+fn longest(n: u8, c: u64, turn: u64) -> Vec<u8> {
     let mut random = Random(77);
-    let mut script = script(3, 2, 2);
-    lively(&mut script, &mut random, 4_000, 12);
-    let spare = 1_000 - script.run.values.len() as u64;
+    let mut script = script(n, c, c);
+    lively(&mut script, &mut random, MOST_MOVES, turn);
+    let spare = MOST_VALUES - script.run.values.len() as u64;
     script.rest(&record(999, spare));
     script.file()
 }
