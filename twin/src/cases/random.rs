@@ -28,7 +28,10 @@ pub fn cases() -> Vec<Case> {
         }
     }
     cases.push(Case::new("limit-m4000-v1000", longest(3, 2, 12)));
-    cases.push(Case::new("limit-n8-c32-m4000-v1000", longest(8, 32, 40)));
+    let largest = longest(8, 32, 40);
+    cases.push(Case::new("limit-one-byte-more", [&largest[..], &[0]].concat()));
+    cases.push(Case::new("limit-n8-c32-m4000-v1000", largest));
+    cases.push(Case::new("longest-text", longest_text()));
     cases
 }
 
@@ -87,5 +90,18 @@ fn longest(n: u8, c: u64, turn: u64) -> Vec<u8> {
     lively(&mut script, &mut random, MOST_MOVES, turn);
     let spare = MOST_VALUES - script.run.values.len() as u64;
     script.rest(&record(999, spare));
+    script.file()
+}
+
+/// One read after another of the most words, each with the most digits.
+fn longest_text() -> Vec<u8> {
+    let Some(mut script) = Script::new(8, 32, &[u64::MAX; 32]) else {
+        panic!("sizes out of range");
+    };
+    while script.run.moves.len() < MOST_MOVES {
+        script.begin(7);
+        let left = MOST_MOVES - script.run.moves.len();
+        script.steps(7, left.min(34));
+    }
     script.file()
 }
