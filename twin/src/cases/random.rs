@@ -29,7 +29,7 @@ pub fn cases() -> Vec<Case> {
     }
     cases.push(Case::new("limit-m4000-v1000", longest(3, 2, 12)));
     let largest = longest(8, 32, 40);
-    cases.push(Case::new("limit-one-byte-more", [&largest[..], &[0]].concat()));
+    cases.push(Case::new("overlong-largest", [&largest[..], &[0]].concat()));
     cases.push(Case::new("limit-n8-c32-m4000-v1000", largest));
     cases.push(Case::new("longest-text", longest_text()));
     cases
