@@ -50,7 +50,8 @@ module _ (b : List ℕ) (e : is-run-file b ≡ true) where
   unfolding begun
   begun-with a a′ l h r head full called =
       called
-      ∙ ap (λ v. made 1 (h .n) (h .c) v a) (front-words 32 (h .starting) b (place b 0) l (few-starting h head) full)
+      ∙ ap (λ v. made 1 (h .n) (h .c) v a) (front-words 32 (h .starting) b (place b 0) l
+      (few-starting h head) full)
       ∙ ap (λ z. made 1 (z .n) (z .c) (words-at (z .starting) b (place b 0)) a) head
       ∙ ap (λ i. made 1 (readers b) (capacity b) (words-at (starting-length b) b i) a) at-once
       ∙ sym (rw e)
@@ -64,7 +65,8 @@ module _ (b : List ℕ) (e : is-run-file b ≡ true) where
   unfolding begun
   begun-first a a′ r exact called =
       ap (λ y. y .area) called
-      ∙ ap (λ t. cond {A = Answer} t (made 1 (readers b) (capacity b) (starting-record b) a) (refused 11 a) .area) e
+      ∙ ap (λ t. cond {A = Answer} t (made 1 (readers b) (capacity b) (starting-record b) a)
+      (refused 11 a) .area) e
       ∙ started a exact
 
 -- ---- what is no run file

@@ -27,8 +27,8 @@ greatest-age [] = 0
 greatest-age (x ∷ l) = max (x .age) (greatest-age l)
 
 -- a run of the demands whose moves are the accepted calls and whose answers and area at the end, and so whose current
--- word, are those that were played; the tally is that of its answers. An answer has the area that the call left, so what
--- is printed of a read is what the run's history tells of it
+-- word, are those that were played; the tally is that of its answers. An answer has the area that the call left, so
+-- what is printed of a read is what the run's history tells of it
 pub record PlayedRun (b : List ℕ) : Type 0 where
   pub run : Run
   pub its-readers : run .n ≡ readers b

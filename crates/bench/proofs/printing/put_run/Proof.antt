@@ -28,8 +28,10 @@ returns c =
     let begun-run = first-put .before .before .before .before in
     let start = begun-run .before .before .before .before .before in
     let a = start .args in
-    let first = begun-first (a .file .now) (start .pre .0) (a .area .now) _ _ (start .pre .1) (begun-run .begin-run .ensures) in
-    run-put (a .file .now) _ (sheet (a .out .now) 0) first (first-put .put-first .ensures) (moves-put .put-moves .ensures)
+    let first = begun-first (a .file .now) (start .pre .0) (a .area .now) _ _ (start .pre .1)
+    (begun-run .begin-run .ensures) in
+    run-put (a .file .now) _ (sheet (a .out .now) 0) first (first-put .put-first .ensures)
+    (moves-put .put-moves .ensures)
 
 pub put-run-spec : {M : Type 1} → statement M
 put-run-spec =

@@ -19,7 +19,8 @@ returns : tie.Need-returns
 returns c =
     let tested = c .before .before in
     let a = tested .before .before .before .args in
-    not-begun (a .file .now) (a .area .now) _ (sym (tested .is-run-file .ensures) ∙ not-true _ (c .before .if1 .taken))
+    not-begun (a .file .now) (a .area .now) _ (sym (tested .is-run-file .ensures)
+    ∙ not-true _ (c .before .if1 .taken))
     (c .refusal .ensures)
 
 header-requires : tie.Need-header-requires
@@ -52,7 +53,8 @@ array-share-prefix-words c =
     let tested = taken .before .before .before .before .before in
     let a = tested .before .before .before .args in
     let k = head .result .starting in
-    let passed = sym (tested .is-run-file .ensures) ∙ not-false _ (taken .before .before .before .before .if1 .left) in
+    let passed = sym (tested .is-run-file .ensures)
+    ∙ not-false _ (taken .before .before .before .before .if1 .left) in
     front-room 32 k _ (words-at k (a .file .now) (place (a .file .now) 0))
     (few-starting (a .file .now) passed (head .result) (head .ensures)) (taken .take-values .ensures)
 
@@ -63,7 +65,8 @@ slice-aggregate-make c =
     let tested = taken .before .before .before .before .before in
     let a = tested .before .before .before .args in
     let k = head .result .starting in
-    let passed = sym (tested .is-run-file .ensures) ∙ not-false _ (taken .before .before .before .before .if1 .left) in
+    let passed = sym (tested .is-run-file .ensures)
+    ∙ not-false _ (taken .before .before .before .before .if1 .left) in
     front-length 32 k _ (words-at k (a .file .now) (place (a .file .now) 0))
     (few-starting (a .file .now) passed (head .result) (head .ensures)) (taken .take-values .ensures)
 
@@ -80,7 +83,8 @@ returns-2 c =
     let head = taken .before .before .before .header in
     let tested = taken .before .before .before .before .before in
     let a = tested .before .before .before .args in
-    begun-with (a .file .now) (sym (tested .is-run-file .ensures) ∙ not-false _ (taken .before .before .before .before .if1 .left)) (a .area .now) _ _
+    begun-with (a .file .now) (sym (tested .is-run-file .ensures)
+    ∙ not-false _ (taken .before .before .before .before .if1 .left)) (a .area .now) _ _
     (head .result) _ (head .ensures) (taken .take-values .ensures) (make-call .make .ensures)
 
 pub begin-run-spec : {M : Type 1} → statement M
