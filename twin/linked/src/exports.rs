@@ -70,3 +70,28 @@ pub fn show(area: &[u64], reader: u64) -> Place {
 pub fn words(form: u64, n: u64, c: u64) -> u64 {
     unsafe { board_words(form, n, c) }
 }
+
+#[cfg(test)]
+mod tests {
+    use super::*;
+    use std::ptr::{null, null_mut};
+
+    /// Where the length is 0 the pointer may be anything: nothing is read or stored through it.
+    #[test]
+    fn an_empty_slice_has_any_pointer() {
+        let refused = |number| Answer { number, ended: 0, age: 0 };
+        for (area, record) in [(null_mut(), null()), (3 as *mut u64, 5 as *const u64)] {
+            unsafe {
+                assert_eq!(board_make(area, 0, 1, 1, 1, record, 0), refused(10));
+                assert_eq!(board_begin_read(area, 0, 0), refused(1));
+                assert_eq!(board_begin_write(area, 0, record, 0), refused(1));
+                assert_eq!(board_step(area, 0, 0), refused(1));
+                assert_eq!(board_show(area, 0, 0), Place::default());
+                let mut words = vec![5; board_words(1, 1, 1) as usize];
+                let (area, count) = (words.as_mut_ptr(), words.len());
+                assert_eq!(board_make(area, count, 1, 1, 1, record, 0), refused(0));
+                assert_eq!(board_begin_write(area, count, record, 0), refused(0));
+            }
+        }
+    }
+}
