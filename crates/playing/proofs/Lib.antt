@@ -3,4 +3,5 @@ pub mod Values
 pub mod Starting
 pub mod OneMove
 pub mod Tallies
+pub mod ReadsGot
 pub mod Runs

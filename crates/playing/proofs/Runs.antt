@@ -11,12 +11,13 @@ use lib.Dec.{eqb, leb}
 use lib.ListN.{length}
 use Rattle.register.specs.Table.{total}
 use Rattle.register.specs.Area.{form1}
+use Rattle.register.specs.Area.{readers as area-readers}
 use Rattle.register.specs.Steps.{Move, write}
 use Rattle.register.specs.Calls.{Answer, refused, fresh, made, answered}
-use Rattle.register.specs.History.{after, Accepted, none, then}
+use Rattle.register.specs.History.{after, Accepted, none, then, events, nothing-yet}
 use Rattle.register.proofs.Tests.{if-true, eqb-equal, eqb-other}
 use Rattle.register.proofs.Intact.{keeps}
-use Rattle.register.proofs.Making.{fresh-length}
+use Rattle.register.proofs.Making.{fresh-length, fresh-readers}
 use Rattle.runfile.specs.Bytes.{words-at}
 use Rattle.runfile.specs.RunFile.{readers, capacity, moves, values, values-at, starting-record}
 use Rattle.runfile.specs.RunFile.{written, Asked, nothing, values-for, move, asked}
@@ -24,7 +25,8 @@ use Rattle.tally.specs.Tally.{no-tally}
 use Rattle.playing.specs.Play.{State, answer-of, played, next, answers, state-after, first-state, run-state}
 use Rattle.playing.specs.Play.{run-answers, run-tally}
 use Rattle.playing.specs.Play.{call-of, accepted-call, accepted-calls}
-use Rattle.playing.specs.Promise.{answers-to, accepted-only, greatest-age, PlaysARun}
+use Rattle.playing.specs.Promise.{answers-to, accepted-only, greatest-age, read-got, reads-got, PlaysARun}
+use Rattle.playing.proofs.ReadsGot.{gots, told-gots, events-joined, same-readers, move-gots}
 use Rattle.playing.proofs.Tallies.{Adds, adds, answers-length, answers-to-length}
 use Rattle.playing.proofs.Starting.{short, well, started}
 
@@ -124,6 +126,23 @@ whole b (suc k) i s =
     behind (s .area) (next b s (written b i) .area) _ (accepted-call b s (written b i)) _ _ _
     (one b s (asked (readers b) (written b i))) (whole b k (suc i) (next b s (written b i)))
 
+-- what its reads got
+whole-got : (b : List ℕ) (k i : ℕ) (s : State) → area-readers (s .area) ≡ readers b
+    → gots (events (s .area) (accepted-calls b k i s)) ≡ reads-got b k i s
+unfolding played
+whole-got b zero i s kept = refl
+whole-got b (suc k) i s kept =
+    let first = one b s (asked (readers b) (written b i)) in
+    let calls = accepted-call b s (written b i) in
+    let s′ = next b s (written b i) in
+    let rest = accepted-calls b k (suc i) s′ in
+    let kept′ : area-readers (s′ .area) ≡ readers b =
+    ap area-readers (sym (first .area)) ∙ same-readers (s .area) calls (first .accepted) ∙ kept in
+    events-joined (s .area) (s′ .area) calls rest (first .area)
+    ∙ ap (λ y. y ++ gots (events (s′ .area) rest)) (move-gots b s (written b i) kept)
+    ∙ ap (λ y. read-got (readers b) (written b i .process) (played b s (written b i) .answer) ++ y)
+    (whole-got b k (suc i) s′ kept′)
+
 -- ---- it is a run of the demands
 
 pub plays-a-run : PlaysARun
@@ -144,6 +163,10 @@ plays-a-run b e =
       its-record = refl;
       its-moves = refl;
       its-answers = ap (λ a. answers-to a calls) same ∙ all .answers;
+      its-reads =
+          told-gots (length calls) nothing-yet (events (made 1 n c v (fresh n c v) .area) calls)
+          ∙ ap (λ a. gots (events a calls)) same
+          ∙ whole-got b (moves b) 0 (first-state b) (fresh-readers n c v (short b e));
       its-area = ap (λ a. after a calls) same ∙ all .area;
       its-accepted =
           omega (arith, counts .accepted, ap length (all .answers), answers-to-length (first-state b .area) calls);
