@@ -2,3 +2,4 @@
 pub mod Putting
 pub mod Space
 pub mod Course
+pub mod Lengths

@@ -13,7 +13,7 @@ use tally::Tally;
 ghost use mathlib.Core.Bool.{true};
 ghost use mathlib.Core.Path.{_≡_};
 ghost use Prim.Native.Nat.{_≤_};
-ghost use lib.ListN.{length};
+ghost use lib.ListN.{length, take};
 ghost use Rattle.io.specs.Counts.{Counts};
 ghost use Rattle.register.specs.Table.{total};
 ghost use Rattle.register.specs.Area.{form1};
@@ -26,10 +26,13 @@ ghost use Rattle.playing.specs.Code.{state};
 ghost use Rattle.bench.specs.Code.{as-course, course-after, lines-from};
 
 // Puts the text of these bytes: that of the run if they are a run file, and one line if not. Returns where it ends.
+// Where 290,000 bytes are lent it is whole.
 pub fn put_text(file: &[u8], out: &mut [u8]) -> usize
     ensures { λ r. ⌜ sheet (now (out .exit)) r
         ≡ put (sheet (now (out .entry)) 0) (printed (now (file .entry))) ⌝ }
     ensures { λ r. ⌜ Counts r (now (out .exit)) ⌝ }
+    ensures { λ r. ⌜ (290000 ≤ length (now (out .entry))
+        → take r (now (out .exit)) ≡ printed (now (file .entry))) ⌝ }
 {
     if !file::is_run_file(file) {
         return put_refused(out, 0);

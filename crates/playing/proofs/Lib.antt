@@ -4,4 +4,5 @@ pub mod Starting
 pub mod OneMove
 pub mod Tallies
 pub mod ReadsGot
+pub mod ReadCosts
 pub mod Runs

@@ -24,7 +24,7 @@ use Rattle.playing.specs.Promise.{read-got}
 
 -- ---- what the events of a run say that reads got
 
-abbrev got-of : Deed → List Got
+abbrev pub got-of : Deed → List Got
 got-of read-began = []
 got-of (write-began v) = []
 got-of (went-on k) = []

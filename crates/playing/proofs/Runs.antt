@@ -4,22 +4,24 @@ use mathlib.Core.Path.{_≡_, refl, sym, ap, subst, _∙_}
 use mathlib.Core.Logic.{_≢_}
 use mathlib.Core.Bool.{Bool, true, false, cond}
 use mathlib.Core.List.{List, [], _∷_, _++_}
-use Prim.Native.Nat.{ℕ, zero, suc, _+_, _*_}
+use Prim.Native.Nat.{ℕ, zero, suc, _+_, _*_, _≤_}
 use native.Mathlib.Decide.{ℕ-discrete}
 use native.Mathlib.Omega.{arith}
 use lib.Dec.{eqb, leb}
 use lib.ListN.{length}
 use Rattle.register.specs.Table.{total}
 use Rattle.register.specs.Area.{form1}
-use Rattle.register.specs.Area.{readers as area-readers}
+use Rattle.register.specs.Area.{readers as area-readers, memory, phase}
 use Rattle.register.specs.Steps.{Move, write}
 use Rattle.register.specs.Calls.{Answer, refused, fresh, made, answered}
 use Rattle.register.specs.History.{after, Accepted, none, then, events, nothing-yet}
 use Rattle.register.proofs.Tests.{if-true, eqb-equal, eqb-other}
 use Rattle.register.proofs.Intact.{keeps}
-use Rattle.register.proofs.Making.{fresh-length, fresh-readers}
+use Rattle.register.proofs.Making.{fresh-length, fresh-readers, at-desk}
+use Rattle.register.proofs.Made.{fresh-memory}
+use Rattle.register.proofs.Sums.{sum, sum-same, sum-zero}
 use Rattle.runfile.specs.Bytes.{words-at}
-use Rattle.runfile.specs.RunFile.{readers, capacity, moves, values, values-at, starting-record}
+use Rattle.runfile.specs.RunFile.{readers, capacity, moves, values, values-at, starting-record, is-run-file}
 use Rattle.runfile.specs.RunFile.{written, Asked, nothing, values-for, move, asked}
 use Rattle.tally.specs.Tally.{no-tally}
 use Rattle.playing.specs.Play.{State, answer-of, played, next, answers, state-after, first-state, run-state}
@@ -27,8 +29,9 @@ use Rattle.playing.specs.Play.{run-answers, run-tally}
 use Rattle.playing.specs.Play.{call-of, accepted-call, accepted-calls}
 use Rattle.playing.specs.Promise.{answers-to, accepted-only, greatest-age, read-got, reads-got, PlaysARun}
 use Rattle.playing.proofs.ReadsGot.{gots, told-gots, events-joined, same-readers, move-gots}
+use Rattle.playing.proofs.ReadCosts.{costs, paid, reads-cost}
 use Rattle.playing.proofs.Tallies.{Adds, adds, answers-length, answers-to-length}
-use Rattle.playing.proofs.Starting.{short, well, started}
+use Rattle.playing.proofs.Starting.{short, in-range, well, started}
 
 -- ---- one move
 
@@ -143,6 +146,18 @@ whole-got b (suc k) i s kept =
     ∙ ap (λ y. read-got (readers b) (written b i .process) (played b s (written b i) .answer) ++ y)
     (whole-got b k (suc i) s′ kept′)
 
+-- nobody has been paid for anything in a fresh area
+nothing-paid : (b : List ℕ) (e : is-run-file b ≡ true)
+    → sum (readers b) (paid (memory (first-state b .area))) ≡ 0
+nothing-paid b e =
+    sum-same (readers b) (paid (memory (first-state b .area))) (λ r. 0) (λ r l. idle r) ∙ sum-zero (readers b)
+  where
+    idle : (r : ℕ) → paid (memory (first-state b .area)) r ≡ 0
+    idle r =
+        rw (ap (λ m. m (phase r)) (fresh-memory (readers b) (capacity b) (starting-record b) (in-range b e)
+        (short b e))
+        ∙ at-desk (readers b) (capacity b) (starting-record b) 0 r)
+
 -- ---- it is a run of the demands
 
 pub plays-a-run : PlaysARun
@@ -204,3 +219,23 @@ plays-a-run b e =
 
     counts : Adds no-tally (run-tally b) (run-answers b)
     counts = adds no-tally (run-answers b)
+
+-- ---- its reads cost no more than its moves
+
+pub few-words-read : (b : List ℕ) → is-run-file b ≡ true
+    → costs (reads-got b (moves b) 0 (first-state b)) ≤ moves b
+few-words-read b e =
+    let played-run = plays-a-run b e in
+    let all = whole b (moves b) 0 (first-state b) in
+    let calls = accepted-calls b (moves b) 0 (first-state b) in
+    let kept = fresh-readers (readers b) (capacity b) (starting-record b) (short b e) in
+    let paid-for = reads-cost (readers b) (first-state b .area) calls kept (all .accepted) in
+    let same = ap costs (whole-got b (moves b) 0 (first-state b) kept) in
+    omega (
+      arith,
+      paid-for,
+      same,
+      nothing-paid b e,
+      played-run .its-accepted ∙ ap length (played-run .its-moves),
+      played-run .its-refusals,
+    )

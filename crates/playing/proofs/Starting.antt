@@ -8,6 +8,7 @@ use lib.ListN.{length, take, replicate}
 use Rattle.register.specs.Table.{total}
 use Rattle.register.specs.Area.{form1}
 use Rattle.register.specs.Calls.{Answer, refused, made}
+use Rattle.register.proofs.Called.{InRange}
 use Rattle.register.proofs.Made.{made-well, makes}
 use Rattle.answer.specs.Carried.{whole}
 use Rattle.answer.specs.declared.Answer.{Answer as Returned}
@@ -27,6 +28,16 @@ module _ (b : List ℕ) (e : is-run-file b ≡ true) where
   -- the starting record is not too long
   pub short : length (starting-record b) ≤ capacity b
   short = omega (arith, words-length (starting-length b) b (values-at b), facts .short)
+
+  -- N and C are in range
+  pub in-range : InRange (readers b) (capacity b)
+  in-range =
+      record {
+        some-readers = facts .some-readers;
+        few-readers = omega (arith, facts .few-readers);
+        some-words = facts .some-words;
+        few-words = omega (arith, facts .few-words);
+      }
 
   -- words of the right number are taken, and filled as a fresh area
   pub well : (a : List ℕ) → length a ≡ total (form1 (readers b) (capacity b))

@@ -63,7 +63,7 @@ module _ (n c : ℕ) (v : Record) where
   at-slot : (f s : ℕ) → f < 4 → first-memory (slot-field f s) ≡ blank (slot-field f s)
   at-slot f s l = elsewhere (slot-field f s) (λ j e. let z = ap (λ (p : Place). p .field) e in absurd (omega arith))
 
-  at-desk : (f r : ℕ) → first-memory (desk-field f r) ≡ 0
+  pub at-desk : (f r : ℕ) → first-memory (desk-field f r) ≡ 0
   at-desk f r = elsewhere (desk-field f r) (λ j e. let z = ap (λ (p : Place). p .part) e in absurd (omega arith))
 
   at-writer : (f : ℕ) → first-memory (writer-field f) ≡ 0

@@ -24,15 +24,15 @@ put-inside l i t {k} {j} e =
     let ends = ap (λ s. s .end) e in
     omega arith
 
--- a text that ends before the bytes do is whole
+-- a text for which there is room is whole
 pub put-whole : (l : List ℕ) (t : Text) {k : List ℕ} {j : ℕ} → sheet k j ≡ put (sheet l 0) t
-    → j < length k → take j k ≡ t
+    → length t ≤ length l
+    → take j k ≡ t
 unfolding put
 put-whole l t {k} {j} e h =
-    let many = put-length l 0 t e in
     let ends = ap (λ s. s .end) e in
     let all : j ≡ length t = omega arith in
-    ap (take j) (ap (λ s. s .bytes) e) ∙ ap (λ i. take i (pasted l 0 t)) all ∙ pasted-front l t (omega arith)
+    ap (take j) (ap (λ s. s .bytes) e) ∙ ap (λ i. take i (pasted l 0 t)) all ∙ pasted-front l t h
 
 -- a piece for each number of a list
 abbrev pub pieces : (ℕ → Text) → List ℕ → Text

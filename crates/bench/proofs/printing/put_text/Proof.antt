@@ -9,6 +9,7 @@ use Rattle.text.specs.Sheet.{sheet}
 use Rattle.text.proofs.Filling.{put-inside}
 use Rattle.bench.specs.Printed.{printed}
 use Rattle.bench.proofs.Course.{refused-put, played-put}
+use Rattle.bench.proofs.Lengths.{text-whole}
 use Rattle.bench.proofs.printing.put_text.Statement.{statement}
 use Rattle.bench.proofs.printing.put_text.Tie as tie
 
@@ -27,8 +28,14 @@ returns c =
     let tested = refusal-put .before .before .before in
     let a = tested .before .before .before .args in
     let refused-so = sym (tested .is-run-file .ensures) ∙ not-true _ (refusal-put .before .before .if1 .taken) in
-    let so = refused-put (a .file .now) (sheet (a .out .now) 0) refused-so (refusal-put .put-refused .ensures) in
-    (so, counts _ _ (put-inside (a .out .now) 0 (printed (a .file .now)) so))
+    let so = refused-put (a .file .now) (sheet (a .out .now) 0) refused-so (refusal-put .put-refused .ensures) in (
+      so,
+      (
+        counts _ _ (put-inside (a .out .now) 0 (printed (a .file .now)) so),
+        text-whole (a .file .now)
+            (a .out .now) so,
+      ),
+    )
 
 slice-aggregate-put-run-in : tie.Need-slice-aggregate-put-run-in
 slice-aggregate-put-run-in c = search needs
@@ -47,8 +54,14 @@ returns-2 c =
     let passed = run .before .before .before in
     let a = run .before .before .before .before .before .before .before .args in
     let passed-so = sym (passed .before .is-run-file .ensures) ∙ not-false _ (passed .if1 .left) in
-    let so = played-put (a .file .now) (sheet (a .out .now) 0) passed-so (run .put-run-in .ensures) in
-    (so, counts _ _ (put-inside (a .out .now) 0 (printed (a .file .now)) so))
+    let so = played-put (a .file .now) (sheet (a .out .now) 0) passed-so (run .put-run-in .ensures) in (
+      so,
+      (
+        counts _ _ (put-inside (a .out .now) 0 (printed (a .file .now)) so),
+        text-whole (a .file .now)
+            (a .out .now) so,
+      ),
+    )
 
 pub put-text-spec : {M : Type 1} → statement M
 put-text-spec =
