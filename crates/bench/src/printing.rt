@@ -3,6 +3,7 @@ use crate::lines::put_first;
 use crate::lines::put_last;
 use crate::lines::put_move;
 use crate::lines::put_refused;
+use crate::sizes;
 use crate::types::Progress;
 use area::Layout;
 use playing::begins::begin_run;
@@ -39,6 +40,14 @@ pub fn put_text(file: &[u8], out: &mut [u8]) -> usize
     }
     let mut space = [0u64; 711];
     put_run_in(file, &mut space, out)
+}
+
+// The whole text of these bytes, in as many bytes as hold any.
+pub fn whole_text(file: &[u8], out: &mut [u8; sizes::TEXT]) -> usize
+    ensures { λ r. ⌜ take r (now (out .exit)) ≡ printed (now (file .entry)) ⌝ }
+    ensures { λ r. ⌜ Counts r (now (out .exit)) ⌝ }
+{
+    put_text(file, out)
 }
 
 // The text of a run, on the first words of some that are enough for any run.

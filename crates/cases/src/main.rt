@@ -38,7 +38,7 @@ fn holds(run: usize, expected: usize) -> bool {
     let mut wanted = [0u8; sizes::TEXT];
     let size = read_file(text_file, &mut wanted);
     let mut text = [0u8; sizes::TEXT];
-    let end = bench::printing::put_text(&file[..length], &mut text);
+    let end = bench::printing::whole_text(&file[..length], &mut text);
     text::same(&text[..end], &wanted[..size])
 }
 
