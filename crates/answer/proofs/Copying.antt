@@ -9,11 +9,11 @@ use lib.Seq.{drop-cons}
 use Rattle.register.specs.Place.{Record, Place, Store, _≔_, copied}
 use Rattle.register.specs.Area.{form1}
 use Rattle.register.proofs.Tables.{length-store}
-use Rattle.area.specs.Words.{after}
+use Rattle.area.specs.Words.{words-after}
 use Rattle.area.specs.declared.Layout.{Layout}
 
 -- stores leave the number of words
-after-length : (p : Layout) (a : List ℕ) {b : List ℕ} (l : List Store) → b ≡ after p a l
+after-length : (p : Layout) (a : List ℕ) {b : List ℕ} (l : List Store) → b ≡ words-after p a l
     → length b ≡ length a
 after-length p a l e = ap length e ∙ length-store (form1 (p .n) (p .c)) a l
 
@@ -21,7 +21,7 @@ after-length p a l e = ap length e ∙ length-store (form1 (p .n) (p .c)) a l
 pub record Copying (p : Layout) (at : ℕ → Place) (v : Record) (a₀ a : List ℕ) (i : ℕ) : Type 0 where
   pub within : i ≤ length v
   pub as-many : length a ≡ length a₀
-  pub rest : after p a (copied at i (drop i v)) ≡ after p a₀ (copied at 0 v)
+  pub rest : words-after p a (copied at i (drop i v)) ≡ words-after p a₀ (copied at 0 v)
 
 -- no word yet
 pub copying-none : (p : Layout) (at : ℕ → Place) (v : Record) (a : List ℕ) → Copying p at v a a 0
@@ -30,15 +30,15 @@ copying-none p at v a = record { within = omega arith; as-many = refl; rest = re
 module _ {p : Layout} {at : ℕ → Place} {v : Record} {a₀ a : List ℕ} {i : ℕ}
     (x : Copying p at v a₀ a i) where
   -- one word more
-  pub copying-more : {b : List ℕ} → i < length v → b ≡ after p a (at i ≔ getD v i 0 ∷ [])
+  pub copying-more : {b : List ℕ} → i < length v → b ≡ words-after p a (at i ≔ getD v i 0 ∷ [])
       → Copying p at v a₀ b (i + 1)
   copying-more h e =
       record {
         within = omega arith;
         as-many = after-length p a (at i ≔ getD v i 0 ∷ []) e ∙ x .as-many;
-        rest = rw (e, add-one) (sym (ap (λ l. after p a (copied at i l)) (drop-cons v i 0 h)) ∙ x .rest);
+        rest = rw (e, add-one) (sym (ap (λ l. words-after p a (copied at i l)) (drop-cons v i 0 h)) ∙ x .rest);
       }
 
   -- every word
-  pub copying-done : length v ≤ i → a ≡ after p a₀ (copied at 0 v)
-  copying-done h = sym (ap (λ l. after p a (copied at i l)) (drop-of-length-le v h)) ∙ x .rest
+  pub copying-done : length v ≤ i → a ≡ words-after p a₀ (copied at 0 v)
+  copying-done h = sym (ap (λ l. words-after p a (copied at i l)) (drop-of-length-le v h)) ∙ x .rest

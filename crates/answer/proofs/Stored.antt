@@ -5,11 +5,11 @@ use mathlib.Core.List.{List, [], _∷_, _++_}
 use Prim.Native.Nat.{ℕ}
 use native.Mathlib.Omega.{arith}
 use lib.ListN.{length, set}
+use borrow.Author.Tests.{le-ltb}
 use Rattle.register.specs.Place.{Store}
 use Rattle.register.specs.Table.{Table, address, store}
 use Rattle.register.specs.Steps.{refuse, accept}
-use Rattle.register.proofs.Tests.{ltb-beyond}
-use Rattle.area.specs.Words.{Sized, after}
+use Rattle.area.specs.Words.{Sized, words-after}
 use Rattle.area.specs.declared.Layout.{Layout}
 use Rattle.answer.specs.declared.Answer.{Answer as Returned}
 use Rattle.answer.specs.Carried.{whole, carried}
@@ -20,7 +20,7 @@ still-sized s e = record { laid = s .laid; exact = e ∙ s .exact }
 
 -- the words after one store
 abbrev pub stored : Layout → List ℕ → Store → List ℕ
-stored p a s = after p a (s ∷ [])
+stored p a s = words-after p a (s ∷ [])
 
 -- stores behind stores
 pub store-append : (t : Table) (a : List ℕ) (k l : List Store) → store t (store t a k) l ≡ store t a (k ++ l)
@@ -38,13 +38,13 @@ module _ (p : Layout) (q : ℕ) (a : List ℕ) {x : Returned} where
   refuses e = rw e
 
   -- nothing ended
-  pub accepts : {b : List ℕ} (l : List Store) → b ≡ after p a l → x ≡ returned 0 false
+  pub accepts : {b : List ℕ} (l : List Store) → b ≡ words-after p a l → x ≡ returned 0 false
       → whole x b ≡ carried p q a (accept l false)
   unfolding carried
   accepts l f e = ap₂ whole e f
 
 -- a write ended
-pub ends-write : (p : Layout) (a : List ℕ) {b : List ℕ} (l : List Store) → b ≡ after p a l
+pub ends-write : (p : Layout) (a : List ℕ) {b : List ℕ} (l : List Store) → b ≡ words-after p a l
     → whole (returned 0 true) b ≡ carried p (p .n) a (accept l true)
 unfolding carried
-ends-write p a l e = rw (e, ltb-beyond (p .n) (p .n) (omega arith))
+ends-write p a l e = rw (e, le-ltb (p .n) (p .n) (omega arith))

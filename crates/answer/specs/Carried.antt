@@ -6,8 +6,8 @@ use Prim.Native.Nat.{ℕ}
 use lib.Dec.{ltb}
 use Rattle.register.specs.Steps.{Plan, refuse, accept}
 use Rattle.register.specs.Calls.{Answer, refused, age-of}
-use Rattle.register.proofs.Whole.{Whole}
-use Rattle.area.specs.Words.{Sized, memory-of, after}
+use Rattle.register.specs.Conditions.{Whole}
+use Rattle.area.specs.Words.{Sized, memory-of, words-after}
 use Rattle.area.specs.declared.Layout.{Layout}
 use Rattle.answer.specs.declared.Answer.{Answer as Returned}
 
@@ -24,5 +24,5 @@ pub record Ready (p : Layout) (a : List ℕ) : Type 0 where
 unfoldable pub carried : Layout → ℕ → List ℕ → Plan → Answer
 carried p q a (refuse k) = refused k a
 carried p q a (accept stores ends) =
-    let b = after p a stores in
+    let b = words-after p a stores in
     record { number = 0; ended = ends; age = cond (ends && ltb q (p .n)) (age-of (memory-of p b) q) 0; area = b }

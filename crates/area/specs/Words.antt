@@ -50,5 +50,5 @@ abbrev pub memory-of : Layout → List ℕ → Memory
 memory-of p a = view (form1 (p .n) (p .c)) a
 
 -- the words after some stores, by a layout
-abbrev pub after : Layout → List ℕ → List Store → List ℕ
-after p a l = store (form1 (p .n) (p .c)) a l
+abbrev pub words-after : Layout → List ℕ → List Store → List ℕ
+words-after p a l = store (form1 (p .n) (p .c)) a l

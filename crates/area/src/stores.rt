@@ -6,12 +6,12 @@ ghost use Prim.Native.Nat.{_+_, _<_};
 ghost use Rattle.register.specs.Place.{_≔_};
 ghost use Rattle.register.specs.Area.{current, slot-field, contents, desk-field, read-record};
 ghost use Rattle.register.specs.Area.{writer-field, write-record};
-ghost use Rattle.area.specs.Words.{Sized, after};
+ghost use Rattle.area.specs.Words.{Sized, words-after};
 
 // The current word becomes v.
 pub fn set_current(area: &mut [u64], p: Layout, v: u64)
     requires { ⌜ Sized p (now area) ⌝ }
-    ensures { λ _. ⌜ now (area .exit) ≡ after p (now (area .entry)) (current ≔ v ∷ []) ⌝ }
+    ensures { λ _. ⌜ now (area .exit) ≡ words-after p (now (area .entry)) (current ≔ v ∷ []) ⌝ }
 {
     area[Layout::CURRENT] = v;
 }
@@ -19,7 +19,7 @@ pub fn set_current(area: &mut [u64], p: Layout, v: u64)
 // Field f of slot s becomes v.
 pub fn set_slot_field(area: &mut [u64], p: Layout, s: usize, f: usize, v: u64)
     requires { ⌜ Sized p (now area) × (s < p .n + 2) × (f < 4) ⌝ }
-    ensures { λ _. ⌜ now (area .exit) ≡ after p (now (area .entry)) (slot-field f s ≔ v ∷ []) ⌝ }
+    ensures { λ _. ⌜ now (area .exit) ≡ words-after p (now (area .entry)) (slot-field f s ≔ v ∷ []) ⌝ }
 {
     let i = p.slot(s, f);
     area[i] = v;
@@ -28,7 +28,7 @@ pub fn set_slot_field(area: &mut [u64], p: Layout, s: usize, f: usize, v: u64)
 // Word j of the contents of slot s becomes v.
 pub fn set_contents(area: &mut [u64], p: Layout, s: usize, j: usize, v: u64)
     requires { ⌜ Sized p (now area) × (s < p .n + 2) × (j < p .c) ⌝ }
-    ensures { λ _. ⌜ now (area .exit) ≡ after p (now (area .entry)) (contents s j ≔ v ∷ []) ⌝ }
+    ensures { λ _. ⌜ now (area .exit) ≡ words-after p (now (area .entry)) (contents s j ≔ v ∷ []) ⌝ }
 {
     let i = p.slot(s, Layout::SLOT + j);
     area[i] = v;
@@ -37,7 +37,7 @@ pub fn set_contents(area: &mut [u64], p: Layout, s: usize, j: usize, v: u64)
 // Field f of the desk of reader r becomes v.
 pub fn set_desk_field(area: &mut [u64], p: Layout, r: usize, f: usize, v: u64)
     requires { ⌜ Sized p (now area) × (r < p .n) × (f < 6) ⌝ }
-    ensures { λ _. ⌜ now (area .exit) ≡ after p (now (area .entry)) (desk-field f r ≔ v ∷ []) ⌝ }
+    ensures { λ _. ⌜ now (area .exit) ≡ words-after p (now (area .entry)) (desk-field f r ≔ v ∷ []) ⌝ }
 {
     let i = p.desk(r, f);
     area[i] = v;
@@ -46,7 +46,7 @@ pub fn set_desk_field(area: &mut [u64], p: Layout, r: usize, f: usize, v: u64)
 // Word j of the record of reader r becomes v.
 pub fn set_read_record(area: &mut [u64], p: Layout, r: usize, j: usize, v: u64)
     requires { ⌜ Sized p (now area) × (r < p .n) × (j < p .c) ⌝ }
-    ensures { λ _. ⌜ now (area .exit) ≡ after p (now (area .entry)) (read-record r j ≔ v ∷ []) ⌝ }
+    ensures { λ _. ⌜ now (area .exit) ≡ words-after p (now (area .entry)) (read-record r j ≔ v ∷ []) ⌝ }
 {
     let i = p.desk(r, Layout::DESK + j);
     area[i] = v;
@@ -55,7 +55,7 @@ pub fn set_read_record(area: &mut [u64], p: Layout, r: usize, j: usize, v: u64)
 // Field f of the writer's desk becomes v.
 pub fn set_writer_field(area: &mut [u64], p: Layout, f: usize, v: u64)
     requires { ⌜ Sized p (now area) × (f < 7) ⌝ }
-    ensures { λ _. ⌜ now (area .exit) ≡ after p (now (area .entry)) (writer-field f ≔ v ∷ []) ⌝ }
+    ensures { λ _. ⌜ now (area .exit) ≡ words-after p (now (area .entry)) (writer-field f ≔ v ∷ []) ⌝ }
 {
     let i = p.own(f);
     area[i] = v;
@@ -64,7 +64,7 @@ pub fn set_writer_field(area: &mut [u64], p: Layout, f: usize, v: u64)
 // Word j of the writer's record becomes v.
 pub fn set_write_record(area: &mut [u64], p: Layout, j: usize, v: u64)
     requires { ⌜ Sized p (now area) × (j < p .c) ⌝ }
-    ensures { λ _. ⌜ now (area .exit) ≡ after p (now (area .entry)) (write-record j ≔ v ∷ []) ⌝ }
+    ensures { λ _. ⌜ now (area .exit) ≡ words-after p (now (area .entry)) (write-record j ≔ v ∷ []) ⌝ }
 {
     let i = p.own(Layout::WRITER + j);
     area[i] = v;

@@ -7,10 +7,10 @@ use mathlib.Core.List.{List}
 use Prim.Native.Nat.{ℕ, _<_, _≤_}
 use native.Mathlib.Omega.{arith}
 use lib.Dec.{ltb, eqb}
+use borrow.Author.Tests.{lt-ltb, le-ltb, eq-eqb, ne-eqb}
 use Rattle.register.specs.Area.{readers, capacity, is-area, memory, undamaged}
 use Rattle.register.specs.Steps.{Plan, refuse, accept, reader-step, writer-step, Move, step, mover, plan}
 use Rattle.register.specs.Calls.{refused, carried-out, answered}
-use Rattle.register.proofs.Tests.{ltb-below, ltb-beyond, eqb-equal, eqb-other}
 use Rattle.register.proofs.Called.{whole-area}
 use Rattle.area.specs.declared.Layout.{Layout}
 use Rattle.area.specs.Words.{layout-of, memory-of}
@@ -68,12 +68,12 @@ module _ (a : List ℕ) {k : ℕ} (e : k ≡ test-number a) (z : k ≡ 0) where
           sym (ap₂ (λ x y. carried p q a (cond x reads (cond y writes (refuse 3)))) l e) ∙ carries-out (step q)
 
       pub by-reader : q < p .n → carried p q a reads ≡ answered a (step q)
-      by-reader l = picked (ltb-below q (p .n) l) refl
+      by-reader l = picked (lt-ltb q (p .n) l) refl
 
       pub by-writer : q ≡ p .n → carried p (p .n) a writes ≡ answered a (step q)
       by-writer e =
           ap (λ j. carried p j a writes) (sym e)
-          ∙ picked (ltb-beyond q (p .n) (omega (arith, e))) (eqb-equal q (p .n) e)
+          ∙ picked (le-ltb q (p .n) (omega (arith, e))) (eq-eqb q (p .n) e)
 
       pub by-nobody : p .n ≤ q → q ≢ p .n → carried p q a (refuse 3) ≡ answered a (step q)
-      by-nobody l d = picked (ltb-beyond q (p .n) l) (eqb-other q (p .n) d)
+      by-nobody l d = picked (le-ltb q (p .n) l) (ne-eqb q (p .n) d)

@@ -7,7 +7,7 @@ ghost use mathlib.Core.Path.{_≡_};
 ghost use Prim.Native.Nat.{_≤_};
 ghost use lib.ListN.{length, replicate};
 ghost use Rattle.register.specs.Calls.{fresh, made};
-ghost use Rattle.area.specs.Words.{Sized, after};
+ghost use Rattle.area.specs.Words.{Sized, words-after};
 ghost use Rattle.answer.specs.Carried.{whole};
 ghost use Rattle.board.specs.Making.{numbers, offsets, starting};
 
@@ -25,7 +25,7 @@ fn clear(area: &mut [u64])
 // Words 0 to 3 of the header.
 fn set_numbers(area: &mut [u64], p: Layout)
     requires { ⌜ Sized p (now area) ⌝ }
-    ensures { λ _. ⌜ now (area .exit) ≡ after p (now (area .entry)) (numbers (p .n) (p .c)) ⌝ }
+    ensures { λ _. ⌜ now (area .exit) ≡ words-after p (now (area .entry)) (numbers (p .n) (p .c)) ⌝ }
 {
     area[Layout::FORM] = 1;
     area[Layout::READERS] = p.n as u64;
@@ -36,7 +36,7 @@ fn set_numbers(area: &mut [u64], p: Layout)
 // Words 4 to 7 of the header. The current word counts every reader in slot 0.
 fn set_offsets(area: &mut [u64], p: Layout)
     requires { ⌜ Sized p (now area) ⌝ }
-    ensures { λ _. ⌜ now (area .exit) ≡ after p (now (area .entry)) (offsets (p .n) (p .c)) ⌝ }
+    ensures { λ _. ⌜ now (area .exit) ≡ words-after p (now (area .entry)) (offsets (p .n) (p .c)) ⌝ }
 {
     area[Layout::SLOTS_AT] = p.slots as u64;
     area[Layout::DESKS_AT] = p.desks as u64;
@@ -47,7 +47,7 @@ fn set_offsets(area: &mut [u64], p: Layout)
 // The starting record and its size go into slot 0.
 fn set_starting(area: &mut [u64], p: Layout, record: &[u64])
     requires { ⌜ Sized p (now area) × (length (now «record») ≤ p .c) ⌝ }
-    ensures { λ _. ⌜ now (area .exit) ≡ after p (now (area .entry)) (starting (now («record» .entry))) ⌝ }
+    ensures { λ _. ⌜ now (area .exit) ≡ words-after p (now (area .entry)) (starting (now («record» .entry))) ⌝ }
 {
     stores::set_slot_field(area, p, 0, Layout::SIZE, record.len() as u64);
     let mut i = 0;

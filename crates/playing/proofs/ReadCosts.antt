@@ -8,13 +8,14 @@ use Prim.Native.Nat.{ℕ, suc, _+_, _≤_, _<_}
 use native.Mathlib.Omega.{arith}
 use lib.Dec.{eqb, lit<}
 use lib.ListN.{length}
+use borrow.Author.Tests.{ne-eqb}
 use Rattle.register.specs.Place.{Memory, apply}
 use Rattle.register.specs.Area.{readers, memory, phase, pos, len, read-record}
 use Rattle.register.specs.Steps.{Move, copies}
 use Rattle.register.specs.Calls.{answered}
 use Rattle.register.specs.History.{after, Accepted, none, then, Got}
 use Rattle.register.specs.History.{Event, event, events}
-use Rattle.register.proofs.Tests.{eqb-same, eqb-other}
+use Rattle.register.proofs.Tests.{eqb-same}
 use Rattle.register.proofs.Places.{row-length}
 use Rattle.register.proofs.Sums.{sum, sum-same, sum-one}
 use Rattle.register.proofs.Moves.{Does, desk-record}
@@ -49,26 +50,26 @@ by-writer n m m′ same = omega (arith, sum-same n (paid m′) (paid m) same)
 pays : {n c : ℕ} {m m′ : Memory} {e : Event} → Does n c m e m′
     → costs (got-of (e .what)) + sum n (paid m′) ≤ sum n (paid m) + 1
 pays {n} {c} {m} {m′} (moves.read-starts r l e) =
-    by-reader n m m′ r 0 l (λ i d. rw (eqb-other i r d)) (rw (eqb-same r, e) (omega arith))
+    by-reader n m m′ r 0 l (λ i d. rw (ne-eqb i r d)) (rw (eqb-same r, e) (omega arith))
 pays {n} {c} {m} {m′} (moves.finds-same r l e x) =
-    by-reader n m m′ r 0 l (λ i d. rw (eqb-other i r d)) (rw (eqb-same r, e) (omega arith))
+    by-reader n m m′ r 0 l (λ i d. rw (ne-eqb i r d)) (rw (eqb-same r, e) (omega arith))
 pays {n} {c} {m} {m′} (moves.finds-other r l e x) =
-    by-reader n m m′ r 0 l (λ i d. rw (eqb-other i r d)) (rw (eqb-same r, e) (omega arith))
+    by-reader n m m′ r 0 l (λ i d. rw (ne-eqb i r d)) (rw (eqb-same r, e) (omega arith))
 pays {n} {c} {m} {m′} (moves.leaves-slot r l e x) =
-    by-reader n m m′ r 0 l (λ i d. rw (eqb-other i r d)) (rw (eqb-same r, e) (omega arith))
+    by-reader n m m′ r 0 l (λ i d. rw (ne-eqb i r d)) (rw (eqb-same r, e) (omega arith))
 pays {n} {c} {m} {m′} (moves.joins-slot r l e x) =
-    by-reader n m m′ r 0 l (λ i d. rw (eqb-other i r d)) (rw (eqb-same r, e) (omega arith))
+    by-reader n m m′ r 0 l (λ i d. rw (ne-eqb i r d)) (rw (eqb-same r, e) (omega arith))
 pays {n} {c} {m} {m′} (moves.takes-none r l e x) =
-    by-reader n m m′ r 1 l (λ i d. rw (eqb-other i r d)) (rw (eqb-same r, e) (omega arith))
+    by-reader n m m′ r 1 l (λ i d. rw (ne-eqb i r d)) (rw (eqb-same r, e) (omega arith))
 pays {n} {c} {m} {m′} (moves.takes-size r l e x) =
-    by-reader n m m′ r 0 l (λ i d. rw (eqb-other i r d)) (rw (eqb-same r, e) (omega arith))
+    by-reader n m m′ r 0 l (λ i d. rw (ne-eqb i r d)) (rw (eqb-same r, e) (omega arith))
 pays {n} {c} {m} {m′} (moves.copies-word r l e x) =
-    by-reader n m m′ r 0 l (λ i d. rw (eqb-other i r d)) (rw (eqb-same r, e) (omega arith))
+    by-reader n m m′ r 0 l (λ i d. rw (ne-eqb i r d)) (rw (eqb-same r, e) (omega arith))
 pays {n} {c} {m} {m′} (moves.copies-last r l e x) =
     let many : length (desk-record (apply m (copies m r)) r) ≡ suc (m (pos r)) =
     row-length (m (len r)) (λ i. apply m (copies m r) (read-record r i)) ∙ sym x in
     subst (λ k. suc k + 0 + sum n (paid m′) ≤ sum n (paid m) + 1) (sym many)
-    (by-reader n m m′ r (suc (suc (m (pos r))) + 0) l (λ i d. rw (eqb-other i r d))
+    (by-reader n m m′ r (suc (suc (m (pos r))) + 0) l (λ i d. rw (ne-eqb i r d))
     (rw (eqb-same r, e) (omega arith)))
 pays {n} {c} {m} {m′} (moves.write-starts v l e more) = by-writer n m m′ (λ i k. refl)
 pays {n} {c} {m} {m′} (moves.picks-empty e x y z) = by-writer n m m′ (λ i k. refl)

@@ -6,16 +6,17 @@ use Prim.Native.Nat.{ℕ, _+_, _*_}
 use native.Mathlib.Decide.{ℕ-discrete}
 use lib.Dec.{eqb, leb, ltb, lit<}
 use lib.ListN.{length}
+use borrow.Author.Tests.{eq-eqb, ne-eqb}
 use Rattle.register.specs.Place.{Record}
 use Rattle.register.specs.Area.{readers as area-readers, capacity as area-capacity, is-area, undamaged, memory}
 use Rattle.register.specs.Area.{phase, writer-phase, writes-ended, most-writes}
-use Rattle.register.specs.Steps.{Move, read, write, step, refuse, accept, Plan, turns, begins-write, mover, plan}
+use Rattle.register.specs.Steps.{Move, read, write, step, refuse, accept, Plan, sets-phase, begins-write, mover, plan}
 use Rattle.register.specs.Calls.{Answer, refused, carried-out, answered}
 use Rattle.register.specs.History.{after, Accepted, none, then, Got, got, Deed, read-began, write-began, went-on}
 use Rattle.register.specs.History.{looked}
 use Rattle.register.specs.History.{published, read-ended, write-ended, Event, event, events, Read, History, noted}
 use Rattle.register.specs.History.{all-noted, writer-deed}
-use Rattle.register.proofs.Tests.{if-true, eqb-equal, eqb-other}
+use Rattle.register.proofs.Tests.{if-true}
 use Rattle.register.proofs.Intact.{keeps}
 use Rattle.runfile.specs.Bytes.{words-at}
 use Rattle.runfile.specs.RunFile.{readers, values, values-at, Written, Asked, nothing, values-for, move, asked}
@@ -104,7 +105,7 @@ read-not-ended : (a : List ℕ) (r : ℕ) → answered a (read r) .ended ≡ fal
 read-not-ended a r =
     answer-not-ended a (read r)
     (if-true EndsNothing (ltb r (area-readers a)) _ (refuse 3)
-    (λ e. if-true EndsNothing (eqb (memory a (phase r)) 0) (accept (turns r 1) false) (refuse 5) (λ d. refl)
+    (λ e. if-true EndsNothing (eqb (memory a (phase r)) 0) (accept (sets-phase r 1) false) (refuse 5) (λ d. refl)
     (λ d. tt)) (λ e. tt))
 
 write-not-ended : (a : List ℕ) (v : Record) → answered a (write v) .ended ≡ false
@@ -162,10 +163,10 @@ step-gots a p n e = go (ℕ-discrete (answered a (step p) .number) 0)
         → gots (events a (cond (eqb (answered a (step p) .number) 0) (step p ∷ []) []))
         ≡ read-got n p (answered a (step p))
     go (yes z) =
-        ap (λ t. gots (events a (cond t (step p ∷ []) []))) (eqb-equal _ _ z) ∙ append-nil _
+        ap (λ t. gots (events a (cond t (step p ∷ []) []))) (eq-eqb _ _ z) ∙ append-nil _
         ∙ step-got a p ∙ ap (λ k. read-got k p (answered a (step p))) e
     go (no d) =
-        ap (λ t. gots (events a (cond t (step p ∷ []) []))) (eqb-other _ _ d)
+        ap (λ t. gots (events a (cond t (step p ∷ []) []))) (ne-eqb _ _ d)
         ∙ no-read n p (answered a (step p)) (keeps a (step p) .0 d .ended)
 
 module _ (b : List ℕ) (s : State) (w : Written) (kept : area-readers (s .area) ≡ readers b) where

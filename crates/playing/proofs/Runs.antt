@@ -9,13 +9,14 @@ use native.Mathlib.Decide.{ℕ-discrete}
 use native.Mathlib.Omega.{arith}
 use lib.Dec.{eqb, leb}
 use lib.ListN.{length}
+use borrow.Author.Tests.{eq-eqb, ne-eqb}
 use Rattle.register.specs.Table.{total}
 use Rattle.register.specs.Area.{form1}
 use Rattle.register.specs.Area.{readers as area-readers, memory, phase}
 use Rattle.register.specs.Steps.{Move, write}
 use Rattle.register.specs.Calls.{Answer, refused, fresh, made, answered}
 use Rattle.register.specs.History.{after, Accepted, none, then, events, nothing-yet}
-use Rattle.register.proofs.Tests.{if-true, eqb-equal, eqb-other}
+use Rattle.register.proofs.Tests.{if-true}
 use Rattle.register.proofs.Intact.{keeps}
 use Rattle.register.proofs.Making.{fresh-length, fresh-readers, at-desk}
 use Rattle.register.proofs.Made.{fresh-memory}
@@ -48,11 +49,11 @@ pub record Called (a a′ : List ℕ) (l : List Move) (r : List Answer) : Type 0
 -- accepted, a move is one accepted call
 one-call : (a : List ℕ) (x : Move) → answered a x .number ≡ 0
     → Called a (answered a x .area) (x ∷ []) (answered a x ∷ [])
-one-call a x z = record { accepted = then z none; area = refl; answers = sym (rw (eqb-equal _ _ z)) }
+one-call a x z = record { accepted = then z none; area = refl; answers = sym (rw (eq-eqb _ _ z)) }
 
 -- refused, it is none, and changes nothing
 no-call : (a : List ℕ) (x : Answer) → x .number ≢ 0 → x .area ≡ a → Called a (x .area) [] (x ∷ [])
-no-call a x d e = record { accepted = none; area = sym e; answers = sym (rw (eqb-other _ _ d)) }
+no-call a x d e = record { accepted = none; area = sym e; answers = sym (rw (ne-eqb _ _ d)) }
 
 module _ (b : List ℕ) (s : State) where
   by-number : (x : Answer) (l : List Move) → (x .number ≡ 0 → Called (s .area) (x .area) l (x ∷ []))
@@ -63,9 +64,9 @@ module _ (b : List ℕ) (s : State) where
     where
       go : Dec (x .number ≡ 0) → Called (s .area) (x .area) (cond (eqb (x .number) 0) l []) (x ∷ [])
       go (yes e) =
-          subst (λ t. Called (s .area) (x .area) (cond t l []) (x ∷ [])) (sym (eqb-equal _ _ e)) (yes-so e)
+          subst (λ t. Called (s .area) (x .area) (cond t l []) (x ∷ [])) (sym (eq-eqb _ _ e)) (yes-so e)
       go (no d) =
-          subst (λ t. Called (s .area) (x .area) (cond t l []) (x ∷ [])) (sym (eqb-other _ _ d))
+          subst (λ t. Called (s .area) (x .area) (cond t l []) (x ∷ [])) (sym (ne-eqb _ _ d))
           (no-call (s .area) x d (not-so d))
 
   one : (y : Asked)

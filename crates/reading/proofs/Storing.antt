@@ -6,7 +6,7 @@ use Prim.Native.Nat.{ℕ}
 use Rattle.register.specs.Place.{Store}
 use Rattle.register.specs.Area.{form1}
 use Rattle.register.specs.Steps.{Plan, refuse, accept}
-use Rattle.area.specs.Words.{after}
+use Rattle.area.specs.Words.{words-after}
 use Rattle.area.specs.declared.Layout.{Layout}
 use Rattle.answer.specs.declared.Answer.{Answer as Returned}
 use Rattle.answer.specs.Carried.{whole, carried}
@@ -14,9 +14,9 @@ use Rattle.answer.proofs.Stored
 use Rattle.answer.proofs.Stored.{store-append, returned}
 
 -- stores, and then others
-pub then : (p : Layout) (a : List ℕ) (k l : List Store) {b d : List ℕ} → b ≡ after p a k → d ≡ after p b l
-    → d ≡ after p a (k ++ l)
-then p a k l e f = f ∙ ap (λ y. after p y l) e ∙ store-append (form1 (p .n) (p .c)) a k l
+pub then : (p : Layout) (a : List ℕ) (k l : List Store) {b d : List ℕ} → b ≡ words-after p a k → d ≡ words-after p b l
+    → d ≡ words-after p a (k ++ l)
+then p a k l e f = f ∙ ap (λ y. words-after p y l) e ∙ store-append (form1 (p .n) (p .c)) a k l
 
 module _ (p : Layout) (r : ℕ) (a : List ℕ) (plan : Plan) where
   -- a plan that refuses changes no word
@@ -26,11 +26,11 @@ module _ (p : Layout) (r : ℕ) (a : List ℕ) (plan : Plan) where
 
   -- a plan that ends nothing
   pub accepts : (l : List Store) {x : Returned} {b : List ℕ} → plan ≡ accept l false → x ≡ returned 0 false
-      → b ≡ after p a l → whole x b ≡ carried p r a plan
+      → b ≡ words-after p a l → whole x b ≡ carried p r a plan
   accepts l e f g = rw e (Stored.accepts p r a l g f)
 
   -- a plan whose first stores are made, and whose others end an operation
   pub goes-on : (k l : List Store) {x : Returned} {b d : List ℕ} → plan ≡ accept (k ++ l) true
-      → b ≡ after p a k → whole x d ≡ carried p r b (accept l true) → whole x d ≡ carried p r a plan
+      → b ≡ words-after p a k → whole x d ≡ carried p r b (accept l true) → whole x d ≡ carried p r a plan
   unfolding carried
   goes-on k l e f g = g ∙ rw (e, then p a k l f refl)

@@ -8,7 +8,7 @@ ghost use mathlib.Core.Path.{_≡_};
 ghost use mathlib.Core.Bool.{true};
 ghost use Prim.Native.Nat.{_<_};
 ghost use Rattle.register.specs.Area.{phase};
-ghost use Rattle.register.specs.Steps.{accept, finishes, read-plan, reader-step};
+ghost use Rattle.register.specs.Steps.{accept, finishes, read-begins, reader-step};
 ghost use Rattle.register.specs.Steps.{reader-1, reader-2, reader-3, reader-4, reader-5};
 ghost use Rattle.register.specs.Calls.{age-of};
 ghost use Rattle.area.specs.Words.{Sized, memory-of};
@@ -19,7 +19,7 @@ pub fn read_begins(area: &mut [u64], p: Layout, r: usize) -> Answer
     requires { ⌜ Ready p (now area) ⌝ }
     ensures { λ x. ⌜
         whole x (now (area .exit))
-        ≡ carried p r (now (area .entry)) (read-plan (p .n) (memory-of p (now (area .entry))) r)
+        ≡ carried p r (now (area .entry)) (read-begins (p .n) (memory-of p (now (area .entry))) r)
         ⌝ }
 {
     if r >= p.n {
@@ -44,7 +44,7 @@ pub fn reader_step(area: &mut [u64], p: Layout, r: usize) -> Answer
     let phase = fields::desk_field(area, p, r, Layout::PHASE);
     match phase {
         0 => answer::refusal(6),
-        1 => looks(area, p, r),
+        1 => compares(area, p, r),
         2 => unbinds(area, p, r),
         3 => binds(area, p, r),
         4 => takes(area, p, r),
@@ -54,7 +54,7 @@ pub fn reader_step(area: &mut [u64], p: Layout, r: usize) -> Answer
 }
 
 // Step 1 (R1): look at current's index.
-fn looks(area: &mut [u64], p: Layout, r: usize) -> Answer
+fn compares(area: &mut [u64], p: Layout, r: usize) -> Answer
     requires { ⌜ Ready p (now area) × (r < p .n) ⌝ }
     ensures { λ x. ⌜
         whole x (now (area .exit))

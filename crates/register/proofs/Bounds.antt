@@ -6,14 +6,15 @@ use mathlib.Core.List.{List, [], _∷_, _++_}
 use Prim.Native.Nat.{ℕ, suc, _+_, _≤_, _<_}
 use native.Mathlib.Omega.{arith}
 use lib.ListN.{length}
+use borrow.Author.Tests.{ne-eqb}
 use Rattle.register.specs.Place.{Record, Memory, apply}
 use Rattle.register.specs.Area.{slot-write-number, phase, last, pos, len, desk-write-number, writer-phase}
 use Rattle.register.specs.Area.{in-hand, writer-pos, writer-len, read-record}
-use Rattle.register.specs.Steps.{turns, unbinds, binds, takes, copies, finishes}
+use Rattle.register.specs.Steps.{sets-phase, unbinds, binds, takes, copies, finishes}
 use Rattle.register.specs.History.{Event, read-began, went-on, read-ended, Read, Write, History, closed}
 use Rattle.register.specs.History.{the-read, the-write, noted}
 use Rattle.register.specs.Demands.{Each, none, also}
-use Rattle.register.proofs.Tests.{eqb-same, eqb-other, at-each}
+use Rattle.register.proofs.Tests.{eqb-same, at-each}
 use Rattle.register.proofs.Places.{row-length}
 use Rattle.register.proofs.Placed.{newest}
 use Rattle.register.proofs.Moves
@@ -74,29 +75,29 @@ module _ (n : ℕ) (first : Record) where
         record {
           reads = v .reads;
           writes = v .writes;
-          reader = at-each (ReaderAt (apply m (turns r 1)) (noted all-moves h r (read-began))) r
+          reader = at-each (ReaderAt (apply m (sets-phase r 1)) (noted all-moves h r (read-began))) r
               (rw (eqb-same r) (first-step))
-              (λ q k d. rw (eqb-other q r d) (v .reader q k));
-          writer = rw (eqb-other n r (λ z. omega arith)) (v .writer);
+              (λ q k d. rw (ne-eqb q r d) (v .reader q k));
+          writer = rw (ne-eqb n r (λ z. omega arith)) (v .writer);
         }
     keeps-bounds i w (Moves.finds-same r l e x) =
         record {
           reads = v .reads;
           writes = v .writes;
-          reader = at-each (ReaderAt (apply m (turns r 4)) (noted all-moves h r (went-on 1))) r
+          reader = at-each (ReaderAt (apply m (sets-phase r 4)) (noted all-moves h r (went-on 1))) r
               (rw (eqb-same r)
               (step-binds (v .reader r l) (inl (omega (arith, v .reader r l .early (omega arith) (omega arith))))))
-              (λ q k d. rw (eqb-other q r d) (v .reader q k));
-          writer = rw (eqb-other n r (λ z. omega arith)) (v .writer);
+              (λ q k d. rw (ne-eqb q r d) (v .reader q k));
+          writer = rw (ne-eqb n r (λ z. omega arith)) (v .writer);
         }
     keeps-bounds i w (Moves.finds-other r l e x) =
         record {
           reads = v .reads;
           writes = v .writes;
-          reader = at-each (ReaderAt (apply m (turns r 2)) (noted all-moves h r (went-on 1))) r
+          reader = at-each (ReaderAt (apply m (sets-phase r 2)) (noted all-moves h r (went-on 1))) r
               (rw (eqb-same r) (step-on (v .reader r l) 2 (omega arith) (omega arith) (omega arith)))
-              (λ q k d. rw (eqb-other q r d) (v .reader q k));
-          writer = rw (eqb-other n r (λ z. omega arith)) (v .writer);
+              (λ q k d. rw (ne-eqb q r d) (v .reader q k));
+          writer = rw (ne-eqb n r (λ z. omega arith)) (v .writer);
         }
     keeps-bounds i w (Moves.leaves-slot r l e x) =
         record {
@@ -104,8 +105,8 @@ module _ (n : ℕ) (first : Record) where
           writes = v .writes;
           reader = at-each (ReaderAt (apply m (unbinds m r)) (noted all-moves h r (went-on 2))) r
               (rw (eqb-same r) (step-on (v .reader r l) 3 (omega arith) (omega arith) (omega arith)))
-              (λ q k d. rw (eqb-other q r d) (v .reader q k));
-          writer = rw (eqb-other n r (λ z. omega arith)) (v .writer);
+              (λ q k d. rw (ne-eqb q r d) (v .reader q k));
+          writer = rw (ne-eqb n r (λ z. omega arith)) (v .writer);
         }
     keeps-bounds i w (Moves.joins-slot r l e x) =
         record {
@@ -114,8 +115,8 @@ module _ (n : ℕ) (first : Record) where
           reader = at-each (ReaderAt (apply m (binds m r)) (noted all-moves h r (went-on 3))) r
               (rw (eqb-same r)
               (step-binds (v .reader r l) (inr (omega (arith, v .reader r l .early (omega arith) (omega arith))))))
-              (λ q k d. rw (eqb-other q r d) (v .reader q k));
-          writer = rw (eqb-other n r (λ z. omega arith)) (v .writer);
+              (λ q k d. rw (ne-eqb q r d) (v .reader q k));
+          writer = rw (ne-eqb n r (λ z. omega arith)) (v .writer);
         }
     keeps-bounds i w (Moves.takes-none r l e x) =
         record {
@@ -126,17 +127,17 @@ module _ (n : ℕ) (first : Record) where
               (ReaderAt (apply m (takes m r ++ finishes r))
               (noted all-moves h r (read-ended (got-now m (m (slot-write-number (m (last r)))) [])))) r
               (rw (eqb-same r) (at-rest))
-              (λ q k d. rw (eqb-other q r d) (v .reader q k));
-          writer = rw (eqb-other n r (λ z. omega arith)) (v .writer);
+              (λ q k d. rw (ne-eqb q r d) (v .reader q k));
+          writer = rw (ne-eqb n r (λ z. omega arith)) (v .writer);
         }
     keeps-bounds i w (Moves.takes-size r l e x) =
         record {
           reads = v .reads;
           writes = v .writes;
-          reader = at-each (ReaderAt (apply m (takes m r ++ turns r 5)) (noted all-moves h r (went-on 4))) r
+          reader = at-each (ReaderAt (apply m (takes m r ++ sets-phase r 5)) (noted all-moves h r (went-on 4))) r
               (rw (eqb-same r) (step-sizes (v .reader r l) e))
-              (λ q k d. rw (eqb-other q r d) (v .reader q k));
-          writer = rw (eqb-other n r (λ z. omega arith)) (v .writer);
+              (λ q k d. rw (ne-eqb q r d) (v .reader q k));
+          writer = rw (ne-eqb n r (λ z. omega arith)) (v .writer);
         }
     keeps-bounds i w (Moves.copies-word r l e x) =
         record {
@@ -144,8 +145,8 @@ module _ (n : ℕ) (first : Record) where
           writes = v .writes;
           reader = at-each (ReaderAt (apply m (copies m r)) (noted all-moves h r (went-on 5))) r
               (rw (eqb-same r) (step-copies (v .reader r l) e))
-              (λ q k d. rw (eqb-other q r d) (v .reader q k));
-          writer = rw (eqb-other n r (λ z. omega arith)) (v .writer);
+              (λ q k d. rw (ne-eqb q r d) (v .reader q k));
+          writer = rw (ne-eqb n r (λ z. omega arith)) (v .writer);
         }
     keeps-bounds i w (Moves.copies-last r l e x) =
         record {
@@ -159,21 +160,21 @@ module _ (n : ℕ) (first : Record) where
               (noted all-moves h r
               (read-ended (got-now m (m (desk-write-number r)) (desk-record (apply m (copies m r)) r))))) r
               (rw (eqb-same r) (at-rest))
-              (λ q k d. rw (eqb-other q r d) (v .reader q k));
-          writer = rw (eqb-other n r (λ z. omega arith)) (v .writer);
+              (λ q k d. rw (ne-eqb q r d) (v .reader q k));
+          writer = rw (ne-eqb n r (λ z. omega arith)) (v .writer);
         }
     keeps-bounds i w (Moves.write-starts u l e more) =
         record {
           reads = v .reads;
           writes = v .writes;
-          reader = λ q k. rw (eqb-other q n (λ z. omega arith)) (v .reader q k);
+          reader = λ q k. rw (ne-eqb q n (λ z. omega arith)) (v .reader q k);
           writer = rw (eqb-same n) (begin-steps);
         }
     keeps-bounds i w (Moves.picks-empty e d x y) =
         record {
           reads = v .reads;
           writes = v .writes;
-          reader = λ q k. rw (eqb-other q n (λ z. omega arith)) (v .reader q k);
+          reader = λ q k. rw (ne-eqb q n (λ z. omega arith)) (v .reader q k);
           writer = rw (eqb-same n)
               (look-finds (v .writer) 3 e (scan-within n m i e) (λ z. absurd (omega arith)) (λ z. y) (omega arith)
               (omega arith));
@@ -182,7 +183,7 @@ module _ (n : ℕ) (first : Record) where
         record {
           reads = v .reads;
           writes = v .writes;
-          reader = λ q k. rw (eqb-other q n (λ z. omega arith)) (v .reader q k);
+          reader = λ q k. rw (ne-eqb q n (λ z. omega arith)) (v .reader q k);
           writer = rw (eqb-same n)
               (look-finds (v .writer) 2 e (scan-within n m i e) (λ z. w .writer .unmoved e)
               (λ z. absurd (omega arith)) (omega arith) (omega arith));
@@ -191,49 +192,49 @@ module _ (n : ℕ) (first : Record) where
         record {
           reads = v .reads;
           writes = v .writes;
-          reader = λ q k. rw (eqb-other q n (λ z. omega arith)) (v .reader q k);
+          reader = λ q k. rw (ne-eqb q n (λ z. omega arith)) (v .reader q k);
           writer = rw (eqb-same n) (look-passes (v .writer) e);
         }
     keeps-bounds i w (Moves.fills-word e x) =
         record {
           reads = v .reads;
           writes = v .writes;
-          reader = λ q k. rw (eqb-other q n (λ z. omega arith)) (v .reader q k);
+          reader = λ q k. rw (ne-eqb q n (λ z. omega arith)) (v .reader q k);
           writer = rw (eqb-same n) (fill-steps (v .writer) e);
         }
     keeps-bounds i w (Moves.fills-last e x) =
         record {
           reads = v .reads;
           writes = v .writes;
-          reader = λ q k. rw (eqb-other q n (λ z. omega arith)) (v .reader q k);
+          reader = λ q k. rw (ne-eqb q n (λ z. omega arith)) (v .reader q k);
           writer = rw (eqb-same n) (fill-last (v .writer) e x);
         }
     keeps-bounds i w (Moves.sets-size e) =
         record {
           reads = v .reads;
           writes = v .writes;
-          reader = λ q k. rw (eqb-other q n (λ z. omega arith)) (v .reader q k);
+          reader = λ q k. rw (ne-eqb q n (λ z. omega arith)) (v .reader q k);
           writer = rw (eqb-same n) (next-step (v .writer) 4 (omega arith) (omega arith) (omega arith));
         }
     keeps-bounds i w (Moves.clears-first e) =
         record {
           reads = v .reads;
           writes = v .writes;
-          reader = λ q k. rw (eqb-other q n (λ z. omega arith)) (v .reader q k);
+          reader = λ q k. rw (ne-eqb q n (λ z. omega arith)) (v .reader q k);
           writer = rw (eqb-same n) (next-step (v .writer) 5 (omega arith) (omega arith) (omega arith));
         }
     keeps-bounds i w (Moves.clears-second e) =
         record {
           reads = v .reads;
           writes = v .writes;
-          reader = λ q k. rw (eqb-other q n (λ z. omega arith)) (v .reader q k);
+          reader = λ q k. rw (ne-eqb q n (λ z. omega arith)) (v .reader q k);
           writer = rw (eqb-same n) (next-step (v .writer) 6 (omega arith) (omega arith) (omega arith));
         }
     keeps-bounds i w (Moves.exchanges e) =
         record {
           reads = v .reads;
           writes = also {x = the-write all-moves h n false} published-now (v .writes);
-          reader = λ q k. rw (eqb-other q n (λ z. omega arith)) (v .reader q k);
+          reader = λ q k. rw (ne-eqb q n (λ z. omega arith)) (v .reader q k);
           writer = rw (eqb-same n) (publish-step (v .writer) (length (h .given)) e (w .writer .has (omega arith) .0));
         }
       where
@@ -250,6 +251,6 @@ module _ (n : ℕ) (first : Record) where
           reads = v .reads;
           writes = steps-closed n all-moves (h .moves) (suc (h .steps n)) first (h .writes)
               (omega (arith, v .writer .told e)) (v .writes);
-          reader = λ q k. rw (eqb-other q n (λ z. omega arith)) (v .reader q k);
+          reader = λ q k. rw (ne-eqb q n (λ z. omega arith)) (v .reader q k);
           writer = rw (eqb-same n) (no-steps);
         }

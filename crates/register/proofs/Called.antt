@@ -20,7 +20,8 @@ use Rattle.register.proofs.Tests.{passed, true-passes, each-passes, if-
 use Rattle.register.proofs.Tables.{view-store, length-store, store-untouched}
 use Rattle.register.proofs.Form1.{AllOwn, all-has, head-untouched}
 use Rattle.register.proofs.Moves.{Does, by}
-use Rattle.register.proofs.Whole.{Whole, whole-of, of-whole}
+use Rattle.register.specs.Conditions.{Whole}
+use Rattle.register.proofs.Whole.{whole-of, of-whole}
 use Rattle.register.proofs.Stays.{stays-whole}
 use Rattle.register.proofs.Planned.{Outcome, seen, plan-does}
 

@@ -7,11 +7,12 @@ use mathlib.Core.List.{_++_}
 use Prim.Native.Nat.{ℕ, suc, _*_, _<_}
 use native.Mathlib.Omega.{arith}
 use lib.Dec.{eqb}
+use borrow.Author.Tests.{ne-eqb}
 use Rattle.register.specs.Place.{Memory, apply}
 use Rattle.register.specs.Area.{current, index, r-end, phase, last, in-hand}
-use Rattle.register.specs.Steps.{turns, unbinds, takes, copies, finishes}
+use Rattle.register.specs.Steps.{sets-phase, unbinds, takes, copies, finishes}
 use Rattle.register.specs.History.{Event}
-use Rattle.register.proofs.Tests.{eqb-same, eqb-other, at-each}
+use Rattle.register.proofs.Tests.{eqb-same, at-each}
 use Rattle.register.proofs.Moves
 use Rattle.register.proofs.Moves.{Does}
 use Rattle.register.proofs.Counting.{Counted}
@@ -34,33 +35,33 @@ module _ (n : ℕ) (big : n < 4294967296) {m : Memory} (i : Counted n m) (v : Cl
   stays-clean (Moves.read-starts r l e) =
       record {
         nobody = v .nobody;
-        turned = at-each (Turned (apply m (turns r 1))) r (rw (eqb-same r) (not-leaving (λ z. omega arith)))
-            (λ q k d. rw (eqb-other q r d) (v .turned q k));
+        turned = at-each (Turned (apply m (sets-phase r 1))) r (rw (eqb-same r) (not-leaving (λ z. omega arith)))
+            (λ q k d. rw (ne-eqb q r d) (v .turned q k));
       }
   stays-clean (Moves.finds-same r l e x) =
       record {
         nobody = v .nobody;
-        turned = at-each (Turned (apply m (turns r 4))) r (rw (eqb-same r) (not-leaving (λ z. omega arith)))
-            (λ q k d. rw (eqb-other q r d) (v .turned q k));
+        turned = at-each (Turned (apply m (sets-phase r 4))) r (rw (eqb-same r) (not-leaving (λ z. omega arith)))
+            (λ q k d. rw (ne-eqb q r d) (v .turned q k));
       }
   stays-clean (Moves.finds-other r l e x) =
       record {
         nobody = v .nobody;
-        turned = at-each (Turned (apply m (turns r 2))) r (rw (eqb-same r) (λ y z. x (sym z)))
-            (λ q k d. rw (eqb-other q r d) (v .turned q k));
+        turned = at-each (Turned (apply m (sets-phase r 2))) r (rw (eqb-same r) (λ y z. x (sym z)))
+            (λ q k d. rw (ne-eqb q r d) (v .turned q k));
       }
   stays-clean (Moves.leaves-slot r l e x) =
       record {
-        nobody = rw (eqb-other (index (m current)) (m (last r)) (λ y. v .turned r l e (sym y))) (v .nobody);
+        nobody = rw (ne-eqb (index (m current)) (m (last r)) (λ y. v .turned r l e (sym y))) (v .nobody);
         turned = at-each (Turned (apply m (unbinds m r))) r (rw (eqb-same r) (not-leaving (λ z. omega arith)))
-            (λ q k d. rw (eqb-other q r d) (v .turned q k));
+            (λ q k d. rw (ne-eqb q r d) (v .turned q k));
       }
   stays-clean (Moves.joins-slot r l e x) =
       let same : index (suc (m current)) ≡ index (m current) = omega arith in
       record {
         nobody = rw same (v .nobody);
         turned = λ q k. rw same (at-each Joined r (rw (eqb-same r) (not-leaving (λ z. omega arith)))
-            (λ p h d. rw (eqb-other p r d) (v .turned p h)) q k);
+            (λ p h d. rw (ne-eqb p r d) (v .turned p h)) q k);
       }
     where
       Joined : ℕ → Type 0
@@ -71,14 +72,14 @@ module _ (n : ℕ) (big : n < 4294967296) {m : Memory} (i : Counted n m) (v : Cl
         nobody = v .nobody;
         turned = at-each (Turned (apply m (takes m r ++ finishes r))) r
             (rw (eqb-same r) (not-leaving (λ z. omega arith)))
-            (λ q k d. rw (eqb-other q r d) (v .turned q k));
+            (λ q k d. rw (ne-eqb q r d) (v .turned q k));
       }
   stays-clean (Moves.takes-size r l e x) =
       record {
         nobody = v .nobody;
-        turned = at-each (Turned (apply m (takes m r ++ turns r 5))) r
+        turned = at-each (Turned (apply m (takes m r ++ sets-phase r 5))) r
             (rw (eqb-same r) (not-leaving (λ z. omega arith)))
-            (λ q k d. rw (eqb-other q r d) (v .turned q k));
+            (λ q k d. rw (ne-eqb q r d) (v .turned q k));
       }
   stays-clean (Moves.copies-word r l e x) = record { nobody = v .nobody; turned = v .turned }
   stays-clean (Moves.copies-last r l e x) =
@@ -86,7 +87,7 @@ module _ (n : ℕ) (big : n < 4294967296) {m : Memory} (i : Counted n m) (v : Cl
         nobody = v .nobody;
         turned = at-each (Turned (apply m (copies m r ++ finishes r))) r
             (rw (eqb-same r) (not-leaving (λ z. omega arith)))
-            (λ q k d. rw (eqb-other q r d) (v .turned q k));
+            (λ q k d. rw (ne-eqb q r d) (v .turned q k));
       }
   stays-clean (Moves.write-starts u l e more) = record { nobody = v .nobody; turned = v .turned }
   stays-clean (Moves.picks-empty e d x y) = record { nobody = v .nobody; turned = v .turned }
@@ -98,7 +99,7 @@ module _ (n : ℕ) (big : n < 4294967296) {m : Memory} (i : Counted n m) (v : Cl
   stays-clean (Moves.clears-first e) = record { nobody = v .nobody; turned = v .turned }
   stays-clean (Moves.clears-second e) =
       let apart : index (m current) ≢ m in-hand = λ y. hand-apart n m i (omega arith) (omega arith) (sym y) in
-      record { nobody = rw (eqb-other (index (m current)) (m in-hand) apart) (v .nobody); turned = v .turned }
+      record { nobody = rw (ne-eqb (index (m current)) (m in-hand) apart) (v .nobody); turned = v .turned }
   stays-clean (Moves.exchanges e) =
       let same : index (m in-hand * 4294967296) ≡ m in-hand = omega arith in
       record {

@@ -8,6 +8,7 @@ use native.Mathlib.Decide.{ℕ-discrete}
 use native.Mathlib.Omega.{arith}
 use lib.Dec.{eqb}
 use lib.ListN.{length}
+use borrow.Author.Tests.{eq-eqb, ne-eqb, lt-ltb, le-ltb}
 use Rattle.register.specs.Place.{Memory, apply}
 use Rattle.register.specs.Area.{phase, writer-phase, writes-ended, readers, capacity, memory}
 use Rattle.register.specs.Steps.{refuse, Move, read, write, step}
@@ -18,7 +19,7 @@ use Rattle.register.specs.History.{got, reader-deed, writer-deed, after,
 use Rattle.register.specs.History.{Event, event, events, History, noted, all-noted, nothing-yet}
 use Rattle.register.specs.Demands.{ended-before, how-many, ends-read, publication, ends-write, beginning}
 use Rattle.register.specs.Demands.{now, told, Complete, LeavesNothingOut}
-use Rattle.register.proofs.Tests.{if-less, eqb-equal, eqb-other, ltb-below, ltb-beyond}
+use Rattle.register.proofs.Tests.{if-less}
 use Rattle.register.proofs.Placed.{length-closed}
 use Rattle.register.proofs.Moves
 use Rattle.register.proofs.Moves.{Does}
@@ -91,7 +92,7 @@ module _ (a : List ℕ) where
           absurd (omega arith)
         where
           refused : its-plan a (step p) ≡ refuse 3
-          refused = rw (ltb-beyond p (readers a) l, eqb-other p (readers a) d)
+          refused = rw (le-ltb p (readers a) l, ne-eqb p (readers a) d)
 
   abbrev its-phase : ℕ
   its-phase = memory a writer-phase
@@ -112,8 +113,8 @@ module _ (a : List ℕ) where
   told-reads (write v) o = refl
   told-reads (step p) o =
       by-process reads-of p (cond (stepped a p .ended) 1 0) 0 (ends-read a (step p)) o (reader (stepped a p .ended))
-      (writer (eqb its-phase 6) (stepped a p .ended) (eqb its-phase 1)) (λ l. rw (ltb-below p (readers a) l))
-      (λ e. rw (ltb-beyond p (readers a) (omega arith)))
+      (writer (eqb its-phase 6) (stepped a p .ended) (eqb its-phase 1)) (λ l. rw (lt-ltb p (readers a) l))
+      (λ e. rw (le-ltb p (readers a) (omega arith)))
     where
       reader : (e : Bool) → reads-of (cond e (read-ended (got p (stepped a p))) (went-on (memory a (phase p))))
           ≡ cond e 1 0
@@ -134,8 +135,8 @@ module _ (a : List ℕ) where
       by-process publications-of p 0 (cond (eqb its-phase 6) 1 0) (publication a (step p)) o
       (reader (stepped a p .ended))
       (writer (eqb its-phase 6) (stepped a p .ended) (eqb its-phase 1))
-      (λ l. rw (eqb-other p (readers a) (λ e. omega arith)))
-      (λ e. rw (eqb-equal p (readers a) e))
+      (λ l. rw (ne-eqb p (readers a) (λ e. omega arith)))
+      (λ e. rw (eq-eqb p (readers a) e))
     where
       reader : (e : Bool) → publications-of (cond e (read-ended (got p (stepped a p))) (went-on (memory a (phase p))))
           ≡ 0
@@ -156,8 +157,8 @@ module _ (a : List ℕ) where
   told-ends (step p) o =
       by-process ends-of p 0 (cond (stepped a p .ended) 1 0) (ends-write a (step p)) o (reader (stepped a p .ended))
       (writer (eqb its-phase 6) (stepped a p .ended) (eqb its-phase 1))
-      (λ l. rw (eqb-other p (readers a) (λ e. omega arith)))
-      (λ e. rw (eqb-equal p (readers a) e))
+      (λ l. rw (ne-eqb p (readers a) (λ e. omega arith)))
+      (λ e. rw (eq-eqb p (readers a) e))
     where
       reader : (e : Bool) → ends-of (cond e (read-ended (got p (stepped a p))) (went-on (memory a (phase p)))) ≡ 0
       reader true = refl

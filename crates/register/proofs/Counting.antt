@@ -7,13 +7,14 @@ use Prim.Native.Nat.{ℕ, zero, suc, _+_, _*_, _≤_, _<_}
 use native.Mathlib.Decide.{ℕ-discrete}
 use native.Mathlib.Omega.{arith}
 use lib.Dec.{eqb}
+use borrow.Author.Tests.{ne-eqb}
 use Rattle.register.specs.Place.{Memory, apply}
 use Rattle.register.specs.Area.{current, index, counter, r-start, r-end, phase, last, writer-phase, last-slot}
 use Rattle.register.specs.Area.{in-hand, old-word}
-use Rattle.register.specs.Steps.{turns, unbinds, binds, takes, copies, finishes, clears-start, clears-end}
+use Rattle.register.specs.Steps.{sets-phase, unbinds, binds, takes, copies, finishes, clears-start, clears-end}
 use Rattle.register.specs.Steps.{publishes, freezes}
 use Rattle.register.specs.History.{Event}
-use Rattle.register.proofs.Tests.{hit, miss, eqb-same, eqb-other, same-either}
+use Rattle.register.proofs.Tests.{hit, miss, eqb-same, same-either}
 use Rattle.register.proofs.Sums.{sum, sum-one, sum-same, sum-at-most, sum-zero, sum-ones, sum-swap}
 use Rattle.register.proofs.Moves
 use Rattle.register.proofs.Moves.{Does}
@@ -37,7 +38,7 @@ pub bound-here : (s p l : ℕ) → p ≢ 3 → l ≡ s → is-bound s p l ≡ 1
 bound-here s p l d e = miss p 3 d 0 (cond (eqb l s) 1 0) ∙ rw (e, eqb-same s)
 
 pub bound-away : (s p l : ℕ) → l ≢ s → is-bound s p l ≡ 0
-bound-away s p l d = rw (eqb-other l s d) (same-either (eqb p 3) 0)
+bound-away s p l d = rw (ne-eqb l s d) (same-either (eqb p 3) 0)
 
 pub bound-at-most : (s p l : ℕ) → is-bound s p l ≤ 1
 bound-at-most s p l = go (eqb p 3) (eqb l s)
@@ -238,16 +239,16 @@ module _ (n : ℕ) where
       → Counted m′
   unfolding bound
   keeps-counts big {m = m} v (Moves.read-starts r h e) =
-      stays m (apply m (turns r 1)) (v .lasts)
-      (quiet m (apply m (turns r 1)) r 1 h (λ x. omega arith) (λ x. omega arith) (λ q. refl) (λ q. refl))
+      stays m (apply m (sets-phase r 1)) (v .lasts)
+      (quiet m (apply m (sets-phase r 1)) r 1 h (λ x. omega arith) (λ x. omega arith) (λ q. refl) (λ q. refl))
       (v .counts)
   keeps-counts big {m = m} v (Moves.finds-same r h e x) =
-      stays m (apply m (turns r 4)) (v .lasts)
-      (quiet m (apply m (turns r 4)) r 4 h (λ y. omega arith) (λ y. omega arith) (λ q. refl) (λ q. refl))
+      stays m (apply m (sets-phase r 4)) (v .lasts)
+      (quiet m (apply m (sets-phase r 4)) r 4 h (λ y. omega arith) (λ y. omega arith) (λ q. refl) (λ q. refl))
       (v .counts)
   keeps-counts big {m = m} v (Moves.finds-other r h e x) =
-      stays m (apply m (turns r 2)) (v .lasts)
-      (quiet m (apply m (turns r 2)) r 2 h (λ y. omega arith) (λ y. omega arith) (λ q. refl) (λ q. refl))
+      stays m (apply m (sets-phase r 2)) (v .lasts)
+      (quiet m (apply m (sets-phase r 2)) r 2 h (λ y. omega arith) (λ y. omega arith) (λ q. refl) (λ q. refl))
       (v .counts)
   keeps-counts big v (Moves.leaves-slot r h e x) = leaving _ r h e v
   keeps-counts big v (Moves.joins-slot r h e x) = joining _ r h big e x v
@@ -256,7 +257,7 @@ module _ (n : ℕ) where
       stays m m′ (v .lasts) (quiet m m′ r 0 h (λ y. omega arith) (λ y. omega arith) (λ q. refl) (λ q. refl))
       (v .counts)
   keeps-counts big {m = m} v (Moves.takes-size r h e x) =
-      let m′ : Memory = apply m (takes m r ++ turns r 5) in
+      let m′ : Memory = apply m (takes m r ++ sets-phase r 5) in
       stays m m′ (v .lasts) (quiet m m′ r 5 h (λ y. omega arith) (λ y. omega arith) (λ q. refl) (λ q. refl))
       (v .counts)
   keeps-counts big v (Moves.copies-word r h e x) = record { lasts = v .lasts; counts = v .counts }

@@ -6,11 +6,12 @@ use mathlib.Core.List.{List, [], _∷_}
 use Prim.Native.Nat.{ℕ, suc, _-_, _≤_, _<_}
 use native.Mathlib.Omega.{arith}
 use lib.ListN.{length}
+use borrow.Author.Tests.{lt-ltb, le-ltb}
 use Rattle.register.specs.Place.{Record, Memory}
 use Rattle.register.specs.Area.{slot-write-number, last, desk-write-number, writer-phase}
 use Rattle.register.specs.History.{Event, Read, Write, History, closed, noted, the-read, the-write}
 use Rattle.register.specs.Demands.{Each, none, also, ended-before}
-use Rattle.register.proofs.Tests.{ltb-below, ltb-beyond, each-follows}
+use Rattle.register.proofs.Tests.{each-follows}
 use Rattle.register.proofs.Moves
 use Rattle.register.proofs.Moves.{Does, got-now}
 use Rattle.register.proofs.Copying.{Writing}
@@ -38,12 +39,12 @@ all-counted : (now : ℕ) (writes : List Write) → Each (λ w. w .end < now) wr
     ≡ length writes
 all-counted now [] none = refl
 all-counted now (w ∷ writes) (also b rest) =
-    rw (ltb-below (w .end) now b) (omega (arith, all-counted now writes rest))
+    rw (lt-ltb (w .end) now b) (omega (arith, all-counted now writes rest))
 
 -- a write that ends at t or later is not counted before t
 not-counted : (t : ℕ) (w : Write) (writes : List Write) → t ≤ w .end → ended-before t (w ∷ writes)
     ≡ ended-before t writes
-not-counted t w writes l = rw (ltb-beyond (w .end) t l) (omega arith)
+not-counted t w writes l = rw (le-ltb (w .end) t l) (omega arith)
 
 -- writes ended, as the writer's desk has it
 pub ended-now : {total now phase : ℕ} {writes : List Write} {given : Record} {len pos ended size number : ℕ}
@@ -118,7 +119,7 @@ module _ (n : ℕ) (first : Record) (total : ℕ) {m : Memory} {h : History} (w 
   closing {now = now} k l e (one-open {w = x} {writes = writes} e′ still past) = (
     let past′ : now < suc now = omega arith in
         all-ended (λ z. omega arith) (also past′ (past-later now writes past)),
-    λ j b. rw (ltb-beyond now j (omega arith), ltb-beyond (x .end) j (omega arith)),
+    λ j b. rw (le-ltb now j (omega arith), le-ltb (x .end) j (omega arith)),
   )
 
   pub keeps-dates : {c : ℕ} {m′ : Memory} {e : Event} → Does n c m e m′

@@ -8,19 +8,19 @@ use Prim.Native.Nat.{ℕ, _+_, _≤_, _<_}
 use native.Mathlib.Decide.{ℕ-discrete}
 use native.Mathlib.Omega.{arith}
 use lib.Dec.{eqb}
+use borrow.Author.Tests.{eq-eqb, ne-eqb}
 use Rattle.register.specs.Place.{Record}
 use Rattle.register.specs.Area.{phase, len, writer-phase, writer-len, readers, is-area, memory}
 use Rattle.register.specs.Area.{undamaged}
 use Rattle.register.specs.Steps
-use Rattle.register.specs.Steps.{Plan, refuse, accept, read-plan, write-plan, Move, read, write, step, mover}
+use Rattle.register.specs.Steps.{Plan, refuse, accept, read-begins, write-begins, Move, read, write, step, mover}
 use Rattle.register.specs.Calls.{carried-out, answered}
 use Rattle.register.specs.History.{History}
 use Rattle.register.specs.Demands.{told, NeverStuck, Ends}
-use Rattle.register.proofs.Tests.{eqb-equal, eqb-other}
 use Rattle.register.proofs.Held.{scan-within}
 use Rattle.register.proofs.Going.{number-of, read-begin-number, write-begin-number, step-number}
 use Rattle.register.proofs.StepCounts.{few-early, few-late}
-use Rattle.register.proofs.Whole.{Whole}
+use Rattle.register.specs.Conditions.{Whole}
 use Rattle.register.proofs.Called.{its-plan, whole-area}
 use Rattle.register.proofs.Promise.{Good, run-ends-good}
 
@@ -44,14 +44,14 @@ module _ {n c : ℕ} {first : Record} {all-moves : ℕ} {a : List ℕ} {h : Hist
       record {
         reads = λ r.
             plan-number a (read r) (g .area) (g .sound)
-            ∙ ap (λ j. number-of (read-plan j (memory a) r)) (g .its-readers) ∙ read-begin-number n c (memory a) r;
+            ∙ ap (λ j. number-of (read-begins j (memory a) r)) (g .its-readers) ∙ read-begin-number n c (memory a) r;
         writes = λ v.
             plan-number a (write v) (g .area) (g .sound)
-            ∙ ap (λ k. number-of (write-plan (readers a) (memory a) k v)) (g .its-capacity)
+            ∙ ap (λ k. number-of (write-begins (readers a) (memory a) k v)) (g .its-capacity)
             ∙ write-begin-number (readers a) c (memory a) v;
         steps = λ p.
             plan-number a (step p) (g .area) (g .sound)
-            ∙ ap (λ j. number-of (Steps.step-plan j (memory a) p)) (g .its-readers)
+            ∙ ap (λ j. number-of (Steps.process-step j (memory a) p)) (g .its-readers)
             ∙ step-number n c (memory a) (g .counted) whole (g .clean) p;
       }
 
@@ -62,10 +62,10 @@ module _ {n c : ℕ} {first : Record} {all-moves : ℕ} {a : List ℕ} {h : Hist
     where
       go : Dec (memory a (phase r) ≡ 5) → h .steps r < cond (eqb (memory a (phase r)) 5) (memory a (len r)) c + 4
       go (yes e) =
-          rw (eqb-equal _ _ e) (omega (arith, few-late (g .bounded .reader r l) e, g .told .reader r l .copied e .2))
+          rw (eq-eqb _ _ e) (omega (arith, few-late (g .bounded .reader r l) e, g .told .reader r l .copied e .2))
       go (no d) =
           let few : memory a (phase r) ≤ 4 = omega (arith, whole .desk r l .phases) in
-          rw (eqb-other _ _ d) (omega (arith, few-early (g .bounded .reader r l) busy few))
+          rw (ne-eqb _ _ d) (omega (arith, few-early (g .bounded .reader r l) busy few))
 
   -- a write under way
   abbrev k : ℕ

@@ -6,19 +6,19 @@ use Prim.Native.Nat.{ℕ, suc, _≤_, _<_}
 use native.Mathlib.Omega.{arith}
 use lib.Dec.{eqb, leb, ltb}
 use lib.ListN.{length}
+use borrow.Author.Tests.{eq-eqb, ne-eqb, lt-ltb, le-ltb}
 use Rattle.register.specs.Place.{Record, Memory}
 use Rattle.register.specs.Area.{current, counter, r-start, r-end, size, limit, most-writes, phase, last, pos}
 use Rattle.register.specs.Area.{len}
 use Rattle.register.specs.Area.{writer-phase, in-hand, writes-ended}
 use Rattle.register.specs.Steps
-use Rattle.register.specs.Steps.{Plan, refuse, accept, read-plan, write-plan, reader-step, writer-step, free}
-use Rattle.register.proofs.Tests.{if-true, if-equal, if-less, end, next, at-number, eqb-equal, eqb-other}
-use Rattle.register.proofs.Tests.{ltb-below, ltb-beyond}
+use Rattle.register.specs.Steps.{Plan, refuse, accept, read-begins, write-begins, reader-step, writer-step, free}
+use Rattle.register.proofs.Tests.{if-true, if-equal, if-less, end, next, at-number}
 use Rattle.register.proofs.Tests.{not-differ-and-same}
 use Rattle.register.proofs.Counting.{Counted}
 use Rattle.register.proofs.Held.{more-slots, counter-room, end-room}
 use Rattle.register.proofs.Clean.{Clean}
-use Rattle.register.proofs.Whole.{Whole}
+use Rattle.register.specs.Conditions.{Whole}
 
 -- the number that a plan gives
 abbrev pub number-of : Plan → ℕ
@@ -27,16 +27,16 @@ number-of (accept stores ends) = 0
 
 module _ (n c : ℕ) (m : Memory) where
   pub read-begin-number : (r : ℕ)
-      → number-of (read-plan n m r) ≡ cond (ltb r n) (cond (eqb (m (phase r)) 0) 0 5) 3
+      → number-of (read-begins n m r) ≡ cond (ltb r n) (cond (eqb (m (phase r)) 0) 0 5) 3
   read-begin-number r = go (ltb r n) (eqb (m (phase r)) 0)
     where
-      go : (a b : Bool) → number-of (cond a (cond b (accept (Steps.turns r 1) false) (refuse 5)) (refuse 3))
+      go : (a b : Bool) → number-of (cond a (cond b (accept (Steps.sets-phase r 1) false) (refuse 5)) (refuse 3))
           ≡ cond a (cond b 0 5) 3
       go true true = refl
       go true false = refl
       go false b = refl
 
-  pub write-begin-number : (v : Record) → number-of (write-plan n m c v)
+  pub write-begin-number : (v : Record) → number-of (write-begins n m c v)
       ≡ cond (leb (length v) c) (cond (eqb (m writer-phase) 0) (cond (ltb (m writes-ended) most-writes) 0 7) 5) 4
   write-begin-number v = go (leb (length v) c) (eqb (m writer-phase) 0) (ltb (m writes-ended) most-writes)
     where
@@ -58,7 +58,7 @@ module _ (n c : ℕ) (m : Memory) where
     unfolding reader-step
     reader-number r l =
         at-number P (m (phase r)) 0 (m (phase r)) _ (refuse 2) (omega arith)
-        (next (λ e. rw (eqb-equal _ _ e))
+        (next (λ e. rw (eq-eqb _ _ e))
         (next (λ e. busy (λ z. omega arith))
         (next
         (λ e.
@@ -81,7 +81,7 @@ module _ (n c : ℕ) (m : Memory) where
         P = Goes-on (m (phase r))
 
         busy : m (phase r) ≢ 0 → _≡_ {A = ℕ} 0 (cond (eqb (m (phase r)) 0) 6 0)
-        busy d = rw (eqb-other _ _ d)
+        busy d = rw (ne-eqb _ _ d)
 
         start-few : (r : ℕ) → r < n → m (r-start (m (last r))) ≤ n
         start-few r l = w .slot (m (last r)) (w .desk r l .slot) .start
@@ -90,7 +90,7 @@ module _ (n c : ℕ) (m : Memory) where
     unfolding writer-step
     writer-number =
         at-number P (m writer-phase) 0 (m writer-phase) _ (refuse 2) (omega arith)
-        (next (λ e. rw (eqb-equal _ _ e))
+        (next (λ e. rw (eq-eqb _ _ e))
         (next
         (λ e.
         if-true P (free m) (accept (Steps.picks m) false) _ (λ f. busy (λ z. omega arith))
@@ -109,15 +109,15 @@ module _ (n c : ℕ) (m : Memory) where
         P = Goes-on (m writer-phase)
 
         busy : m writer-phase ≢ 0 → _≡_ {A = ℕ} 0 (cond (eqb (m writer-phase) 0) 6 0)
-        busy d = rw (eqb-other _ _ d)
+        busy d = rw (ne-eqb _ _ d)
 
-    pub step-number : (p : ℕ) → number-of (Steps.step-plan n m p)
+    pub step-number : (p : ℕ) → number-of (Steps.process-step n m p)
         ≡ cond (ltb p n) (cond (eqb (m (phase p)) 0) 6 0) (cond (eqb p n) (cond (eqb (m writer-phase) 0) 6 0) 3)
     step-number p =
         if-less Reader p n (reader-step n m p) (cond (eqb p n) (writer-step n m) (refuse 3))
-        (λ l. rw (ltb-below p n l) (reader-number p l))
-        (λ l. rw (ltb-beyond p n l) (if-equal Writer p n (writer-step n m) (refuse 3)
-        (λ e. rw (eqb-equal p n e) writer-number) (λ d. rw (eqb-other p n d))))
+        (λ l. rw (lt-ltb p n l) (reader-number p l))
+        (λ l. rw (le-ltb p n l) (if-equal Writer p n (writer-step n m) (refuse 3)
+        (λ e. rw (eq-eqb p n e) writer-number) (λ d. rw (ne-eqb p n d))))
       where
         Reader : Plan → Type 0
         Reader x =

@@ -10,7 +10,7 @@ use Rattle.register.specs.Place.{Record, Memory, Store, apply}
 use Rattle.register.specs.Table.{address, has}
 use Rattle.register.specs.Area.{phase, len, finished, read-record, writer-phase, writes-ended, most-writes}
 use Rattle.register.specs.Area.{readers, capacity, table, all, memory}
-use Rattle.register.specs.Steps.{Plan, refuse, accept, turns, begins-write, Move, read, write, step, mover}
+use Rattle.register.specs.Steps.{Plan, refuse, accept, sets-phase, begins-write, Move, read, write, step, mover}
 use Rattle.register.specs.Calls.{carried-out, answered, is-own, words-from, shown}
 use Rattle.register.specs.History.{went-on, looked, published, write-ended}
 use Rattle.register.specs.Demands.{Each, busy, Untouched, Intact, Keeps}
@@ -34,7 +34,7 @@ EndsNothing (accept stores ends) = ends ≡ false
 begin-ends-nothing : (a : List ℕ) (r : ℕ) → EndsNothing (its-plan a (read r))
 begin-ends-nothing a r =
     if-true EndsNothing (ltb r (readers a)) _ (refuse 3)
-    (λ x. if-true EndsNothing (eqb (memory a (phase r)) 0) (accept (turns r 1) false) (refuse 5) (λ y. refl)
+    (λ x. if-true EndsNothing (eqb (memory a (phase r)) 0) (accept (sets-phase r 1) false) (refuse 5) (λ y. refl)
     (λ y. tt))
     (λ x. tt)
 

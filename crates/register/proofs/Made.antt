@@ -9,12 +9,13 @@ use Prim.Native.Nat.{ℕ, _+_, _*_, _≤_}
 use native.Mathlib.Omega.{arith}
 use lib.Dec.{eqb, leb, leb→le, le→leb}
 use lib.ListN.{length}
+use borrow.Author.Tests.{eq-eqb}
 use Rattle.register.specs.Place.{Record}
 use Rattle.register.specs.Table.{total, view}
 use Rattle.register.specs.Area.{form1, range-tests, in-range, known-form, memory, undamaged}
 use Rattle.register.specs.Calls.{Answer, refused, fresh, made}
 use Rattle.register.specs.Demands.{none, also, Refused, Makes}
-use Rattle.register.proofs.Tests.{passed, true-passes, both, all-pass, if-true, eqb-equal}
+use Rattle.register.proofs.Tests.{passed, true-passes, both, all-pass, if-true}
 use Rattle.register.proofs.Called.{InRange, range-facts, refused-is, sound-area}
 use Rattle.register.proofs.Making.{first-memory, fresh-view, fresh-readers, fresh-capacity, fresh-area}
 use Rattle.register.proofs.Making.{first-whole}
@@ -69,7 +70,7 @@ accepted-when n c v a n1 n64 c1 c256 l short =
     passed _
     (all-pass (range-tests n c)
     (also (le→leb _ _ n1) (also (le→leb _ _ n64) (also (le→leb _ _ c1) (also (le→leb _ _ c256) none))))) in
-    rw (range, eqb-equal (length a) (total (form1 n c)) exact, passed (leb (length v) c) (le→leb _ _ short))
+    rw (range, eq-eqb (length a) (total (form1 n c)) exact, passed (leb (length v) c) (le→leb _ _ short))
 
 refused-made : (form n c : ℕ) (v : Record) (a : List ℕ) → made form n c v a .number ≢ 0
     → Refused a (made form n c v a)

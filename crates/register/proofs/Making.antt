@@ -23,7 +23,7 @@ use Rattle.register.proofs.Tables.{view-store, view-here, length-store,
 use Rattle.register.proofs.Form1.{all-has, has-header, own-slot, own-contents, own-copied}
 use Rattle.register.proofs.Balance.{idle}
 use Rattle.register.proofs.Counting.{is-bound, bound, bound-away, Counted}
-use Rattle.register.proofs.Whole.{Whole}
+use Rattle.register.specs.Conditions.{Whole}
 use Rattle.register.proofs.Placed.{sound-at-first}
 use Rattle.register.proofs.Copying.{not-yet, nothing-written}
 use Rattle.register.proofs.Told.{Told}

@@ -12,8 +12,8 @@ use Rattle.register.specs.Area.{limit, most-writes}
 use Rattle.register.specs.Area.{phase, last, pos, len, desk-write-number, read-record}
 use Rattle.register.specs.Area.{writer-phase, last-slot, in-hand, writer-pos, writer-len, writes-ended}
 use Rattle.register.specs.Area.{write-record}
-use Rattle.register.specs.Steps.{turns, unbinds, binds, takes, copies, finishes, passes, sizes, clears-start}
-use Rattle.register.specs.Steps.{clears-end}
+use Rattle.register.specs.Steps.{sets-phase, unbinds, binds, takes, copies, finishes, passes, sizes, clears-start}
+use Rattle.register.specs.Steps.{sets-out, clears-end}
 use Rattle.register.specs.Steps.{publishes, freezes}
 use Rattle.register.specs.History.{Got, Deed, Event, read-began, write-began, went-on, looked, published}
 use Rattle.register.specs.History.{read-ended, write-ended}
@@ -29,10 +29,6 @@ desk-with m v p =
     (cond (eqb (p .field) 7)
     (cond (eqb (p .row) 0) (cond (ltb (p .column) (length v)) (getD v (p .column) 0) (m p)) (m p)) (m p))
     (m p)
-
--- the stores of the writer's begin behind that copy
-abbrev pub sets-out : Record → List Store
-sets-out v = writer-len ≔ length v ∷ in-hand ≔ 0 ∷ writer-pos ≔ 0 ∷ writer-phase ≔ 1 ∷ []
 
 -- the writer in a phase
 abbrev pub to-phase : ℕ → List Store
@@ -53,11 +49,11 @@ abbrev pub got-now : Memory → ℕ → Record → Got
 got-now m k v = record { age = m writes-ended - k; number = k; own = true; shows = v }
 
 pub data Does (n c : ℕ) (m : Memory) : Event → Memory → Type 0 where
-  read-starts : (r : ℕ) → r < n → m (phase r) ≡ 0 → Does n c m (by r read-began) (apply m (turns r 1))
+  read-starts : (r : ℕ) → r < n → m (phase r) ≡ 0 → Does n c m (by r read-began) (apply m (sets-phase r 1))
   finds-same : (r : ℕ) → r < n → m (phase r) ≡ 1 → index (m current) ≡ m (last r)
-      → Does n c m (by r (went-on 1)) (apply m (turns r 4))
+      → Does n c m (by r (went-on 1)) (apply m (sets-phase r 4))
   finds-other : (r : ℕ) → r < n → m (phase r) ≡ 1 → index (m current) ≢ m (last r)
-      → Does n c m (by r (went-on 1)) (apply m (turns r 2))
+      → Does n c m (by r (went-on 1)) (apply m (sets-phase r 2))
   leaves-slot : (r : ℕ) → r < n → m (phase r) ≡ 2 → m (r-end (m (last r))) < limit n
       → Does n c m (by r (went-on 2)) (apply m (unbinds m r))
   joins-slot : (r : ℕ) → r < n → m (phase r) ≡ 3 → counter (m current) < limit n
@@ -66,7 +62,7 @@ pub data Does (n c : ℕ) (m : Memory) : Event → Memory → Type 0 where
       → Does n c m (by r (read-ended (got-now m (m (slot-write-number (m (last r)))) [])))
       (apply m (takes m r ++ finishes r))
   takes-size : (r : ℕ) → r < n → m (phase r) ≡ 4 → m (size (m (last r))) ≢ 0
-      → Does n c m (by r (went-on 4)) (apply m (takes m r ++ turns r 5))
+      → Does n c m (by r (went-on 4)) (apply m (takes m r ++ sets-phase r 5))
   copies-word : (r : ℕ) → r < n → m (phase r) ≡ 5 → suc (m (pos r)) ≢ m (len r)
       → Does n c m (by r (went-on 5)) (apply m (copies m r))
   copies-last : (r : ℕ) → r < n → m (phase r) ≡ 5 → suc (m (pos r)) ≡ m (len r)

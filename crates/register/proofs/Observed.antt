@@ -7,6 +7,7 @@ use native.Mathlib.Nat.{mul-le-mul-right}
 use native.Mathlib.Omega.{arith}
 use lib.Dec.{ltb, ltb→lt, lt→ltb, lit<}
 use lib.ListN.{length, getD}
+use borrow.Author.Tests.{eq-eqb, lt-ltb}
 use Rattle.register.specs.Place.{Memory, apply}
 use Rattle.register.specs.Table.{total, address}
 use Rattle.register.specs.Area.{phase, len, finished, desk-write-number, read-record, writer-phase}
@@ -16,7 +17,7 @@ use Rattle.register.specs.History.{got, Deed, Event, read-began, write-b
 use Rattle.register.specs.History.{read-ended}
 use Rattle.register.specs.History.{write-ended, reader-deed, writer-deed, event}
 use Rattle.register.specs.Steps.{Move, read, write, step, mover}
-use Rattle.register.proofs.Tests.{passed, true-passes, all-pass, eqb-same, eqb-equal, ltb-below}
+use Rattle.register.proofs.Tests.{passed, true-passes, all-pass, eqb-same}
 use Rattle.register.specs.Demands.{none, also}
 use Rattle.register.proofs.Places.{row-same}
 use Rattle.register.proofs.Tables.{view-here, words-row}
@@ -93,7 +94,7 @@ module _ (a : List ℕ) (p : ℕ) (o : Opened a (step p)) where
     reader-rests : (m′ (phase p) ≡ 0) × (m′ (finished p) ≡ 1)
     reader-rests =
         let deed : seen (readers a) (memory a) (step p) (o .ends) m′ ≡ read-ended (seen-got m′ p) =
-        rw (ltb-below p (readers a) l, e) in
+        rw (lt-ltb p (readers a) l, e) in
         subst (λ d. Rested d m′ p) deed (rested (does o .0))
 
     still : p < readers b
@@ -107,8 +108,8 @@ module _ (a : List ℕ) (p : ℕ) (o : Opened a (step p)) where
         (also (true-passes _ (after-area o))
         (also (true-passes _ (after-sound o))
         (also (lt→ltb _ _ still)
-        (also (true-passes _ (eqb-equal _ _ (ap (λ m. m (phase p)) (after-memory o) ∙ reader-rests .0)))
-        (also (true-passes _ (eqb-equal _ _ (ap (λ m. m (finished p)) (after-memory o) ∙ reader-rests .1)))
+        (also (true-passes _ (eq-eqb _ _ (ap (λ m. m (phase p)) (after-memory o) ∙ reader-rests .0)))
+        (also (true-passes _ (eq-eqb _ _ (ap (λ m. m (finished p)) (after-memory o) ∙ reader-rests .1)))
         none))))))
 
     shows-record : shown b p [] ≡ desk-record m′ p
@@ -125,7 +126,7 @@ module _ (a : List ℕ) (p : ℕ) (o : Opened a (step p)) where
     unfolding carried-out
     same-age =
         ap (λ r. r .age) (o .answers)
-        ∙ (λ i. cond (e i && ltb-below p (readers a) l i) (age-of (after-view o i) p) 0)
+        ∙ (λ i. cond (e i && lt-ltb p (readers a) l i) (age-of (after-view o i) p) 0)
 
     same-got : got p (stepped a p) ≡ seen-got m′ p
     same-got = λ i. record {

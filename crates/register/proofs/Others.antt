@@ -5,11 +5,12 @@ use mathlib.Core.Bool.{Bool, true, false, cond, not}
 use Prim.Native.Nat.{ℕ, _≤_}
 use native.Mathlib.Omega.{arith}
 use lib.Dec.{eqb, ltb, nltb→le}
+use borrow.Author.Tests.{ne-eqb, lt-ltb, le-ltb}
 use Rattle.register.specs.Place.{Memory}
 use Rattle.register.specs.Area.{phase, len, finished, read-record, writer-phase}
 use Rattle.register.specs.History.{Deed, Event, read-began, write-began, went-on, looked, published, read-ended}
 use Rattle.register.specs.History.{write-ended}
-use Rattle.register.proofs.Tests.{eqb-same, eqb-other, ltb-below, ltb-beyond}
+use Rattle.register.proofs.Tests.{eqb-same}
 use Rattle.register.proofs.Moves
 use Rattle.register.proofs.Moves.{Does}
 
@@ -29,26 +30,26 @@ is-end write-ended = true
 
 pub works : {n c : ℕ} {m m′ : Memory} {e : Event} → Does n c m e m′
     → busy-in n m′ (e .who) ≡ not (is-end (e .what))
-works {n = n} (Moves.read-starts r l e) = rw (ltb-below r n l, eqb-same r)
-works {n = n} (Moves.finds-same r l e x) = rw (ltb-below r n l, eqb-same r)
-works {n = n} (Moves.finds-other r l e x) = rw (ltb-below r n l, eqb-same r)
-works {n = n} (Moves.leaves-slot r l e x) = rw (ltb-below r n l, eqb-same r)
-works {n = n} (Moves.joins-slot r l e x) = rw (ltb-below r n l, eqb-same r)
-works {n = n} (Moves.takes-none r l e x) = rw (ltb-below r n l, eqb-same r)
-works {n = n} (Moves.takes-size r l e x) = rw (ltb-below r n l, eqb-same r)
-works {n = n} (Moves.copies-word r l e x) = rw (ltb-below r n l, e)
-works {n = n} (Moves.copies-last r l e x) = rw (ltb-below r n l, eqb-same r)
-works {n = n} (Moves.write-starts u l e more) = rw (ltb-beyond n n (omega arith))
-works {n = n} (Moves.picks-empty e d x y) = rw (ltb-beyond n n (omega arith))
-works {n = n} (Moves.picks-slot e d x y) = rw (ltb-beyond n n (omega arith))
-works {n = n} (Moves.passes-slot e d x) = rw (ltb-beyond n n (omega arith), e)
-works {n = n} (Moves.fills-word e x) = rw (ltb-beyond n n (omega arith))
-works {n = n} (Moves.fills-last e x) = rw (ltb-beyond n n (omega arith))
-works {n = n} (Moves.sets-size e) = rw (ltb-beyond n n (omega arith))
-works {n = n} (Moves.clears-first e) = rw (ltb-beyond n n (omega arith))
-works {n = n} (Moves.clears-second e) = rw (ltb-beyond n n (omega arith))
-works {n = n} (Moves.exchanges e) = rw (ltb-beyond n n (omega arith))
-works {n = n} (Moves.write-ends e) = rw (ltb-beyond n n (omega arith))
+works {n = n} (Moves.read-starts r l e) = rw (lt-ltb r n l, eqb-same r)
+works {n = n} (Moves.finds-same r l e x) = rw (lt-ltb r n l, eqb-same r)
+works {n = n} (Moves.finds-other r l e x) = rw (lt-ltb r n l, eqb-same r)
+works {n = n} (Moves.leaves-slot r l e x) = rw (lt-ltb r n l, eqb-same r)
+works {n = n} (Moves.joins-slot r l e x) = rw (lt-ltb r n l, eqb-same r)
+works {n = n} (Moves.takes-none r l e x) = rw (lt-ltb r n l, eqb-same r)
+works {n = n} (Moves.takes-size r l e x) = rw (lt-ltb r n l, eqb-same r)
+works {n = n} (Moves.copies-word r l e x) = rw (lt-ltb r n l, e)
+works {n = n} (Moves.copies-last r l e x) = rw (lt-ltb r n l, eqb-same r)
+works {n = n} (Moves.write-starts u l e more) = rw (le-ltb n n (omega arith))
+works {n = n} (Moves.picks-empty e d x y) = rw (le-ltb n n (omega arith))
+works {n = n} (Moves.picks-slot e d x y) = rw (le-ltb n n (omega arith))
+works {n = n} (Moves.passes-slot e d x) = rw (le-ltb n n (omega arith), e)
+works {n = n} (Moves.fills-word e x) = rw (le-ltb n n (omega arith))
+works {n = n} (Moves.fills-last e x) = rw (le-ltb n n (omega arith))
+works {n = n} (Moves.sets-size e) = rw (le-ltb n n (omega arith))
+works {n = n} (Moves.clears-first e) = rw (le-ltb n n (omega arith))
+works {n = n} (Moves.clears-second e) = rw (le-ltb n n (omega arith))
+works {n = n} (Moves.exchanges e) = rw (le-ltb n n (omega arith))
+works {n = n} (Moves.write-ends e) = rw (le-ltb n n (omega arith))
 
 -- what showing looks at in the desk of reader r
 pub record DeskSame (m m′ : Memory) (r : ℕ) : Type 0 where
@@ -60,32 +61,32 @@ pub record DeskSame (m m′ : Memory) (r : ℕ) : Type 0 where
 pub desk-same : {n c : ℕ} {m m′ : Memory} {e : Event} → Does n c m e m′ → (r : ℕ) → r ≢ e .who
     → DeskSame m m′ r
 desk-same (Moves.read-starts q l e) r d =
-    record { phases = rw (eqb-other r q d); flag = refl; length-word = refl; words = λ j. refl }
+    record { phases = rw (ne-eqb r q d); flag = refl; length-word = refl; words = λ j. refl }
 desk-same (Moves.finds-same q l e x) r d =
-    record { phases = rw (eqb-other r q d); flag = refl; length-word = refl; words = λ j. refl }
+    record { phases = rw (ne-eqb r q d); flag = refl; length-word = refl; words = λ j. refl }
 desk-same (Moves.finds-other q l e x) r d =
-    record { phases = rw (eqb-other r q d); flag = refl; length-word = refl; words = λ j. refl }
+    record { phases = rw (ne-eqb r q d); flag = refl; length-word = refl; words = λ j. refl }
 desk-same (Moves.leaves-slot q l e x) r d =
-    record { phases = rw (eqb-other r q d); flag = refl; length-word = refl; words = λ j. refl }
+    record { phases = rw (ne-eqb r q d); flag = refl; length-word = refl; words = λ j. refl }
 desk-same (Moves.joins-slot q l e x) r d =
-    record { phases = rw (eqb-other r q d); flag = refl; length-word = refl; words = λ j. refl }
+    record { phases = rw (ne-eqb r q d); flag = refl; length-word = refl; words = λ j. refl }
 desk-same (Moves.takes-none q l e x) r d =
     record {
-      phases = rw (eqb-other r q d);
-      flag = rw (eqb-other r q d);
-      length-word = rw (eqb-other r q d);
+      phases = rw (ne-eqb r q d);
+      flag = rw (ne-eqb r q d);
+      length-word = rw (ne-eqb r q d);
       words = λ j. refl;
     }
 desk-same (Moves.takes-size q l e x) r d =
-    record { phases = rw (eqb-other r q d); flag = refl; length-word = rw (eqb-other r q d); words = λ j. refl }
+    record { phases = rw (ne-eqb r q d); flag = refl; length-word = rw (ne-eqb r q d); words = λ j. refl }
 desk-same (Moves.copies-word q l e x) r d =
-    record { phases = refl; flag = refl; length-word = refl; words = λ j. rw (eqb-other r q d) }
+    record { phases = refl; flag = refl; length-word = refl; words = λ j. rw (ne-eqb r q d) }
 desk-same (Moves.copies-last q l e x) r d =
     record {
-      phases = rw (eqb-other r q d);
-      flag = rw (eqb-other r q d);
+      phases = rw (ne-eqb r q d);
+      flag = rw (ne-eqb r q d);
       length-word = refl;
-      words = λ j. rw (eqb-other r q d);
+      words = λ j. rw (ne-eqb r q d);
     }
 desk-same (Moves.write-starts u l e more) r d =
     record { phases = refl; flag = refl; length-word = refl; words = λ j. refl }

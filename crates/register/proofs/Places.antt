@@ -8,8 +8,9 @@ use native.Mathlib.Decide.{ℕ-discrete}
 use native.Mathlib.Omega.{arith}
 use lib.Dec.{eqb, ltb, ltb→lt, nltb→le}
 use lib.ListN.{length, getD}
+use borrow.Author.Tests.{ne-eqb}
 use Rattle.register.specs.Place.{Record, Place, Memory, changed, Store, apply, copied}
-use Rattle.register.proofs.Tests.{eqb-same, eqb-other, same-either, true-passes}
+use Rattle.register.proofs.Tests.{eqb-same, same-either, true-passes}
 
 -- ---- one place changed
 
@@ -43,12 +44,12 @@ changed-elsewhere m p v q d =
 
     at : Dec (q .part ≡ p .part) → Dec (q .field ≡ p .field) → Dec (q .row ≡ p .row)
         → Dec (q .column ≡ p .column) → changed m p v q ≡ m q
-    at (no x) b c e = rw (eqb-other (q .part) (p .part) x)
-    at (yes x) (no y) c e = rw (eqb-other (q .field) (p .field) y) (any (eqb (q .part) (p .part)))
+    at (no x) b c e = rw (ne-eqb (q .part) (p .part) x)
+    at (yes x) (no y) c e = rw (ne-eqb (q .field) (p .field) y) (any (eqb (q .part) (p .part)))
     at (yes x) (yes y) (no z) e =
-        rw (eqb-other (q .row) (p .row) z) (rw (any (eqb (q .field) (p .field))) (any (eqb (q .part) (p .part))))
+        rw (ne-eqb (q .row) (p .row) z) (rw (any (eqb (q .field) (p .field))) (any (eqb (q .part) (p .part))))
     at (yes x) (yes y) (yes z) (no w) =
-        rw (eqb-other (q .column) (p .column) w)
+        rw (ne-eqb (q .column) (p .column) w)
         (rw (any (eqb (q .row) (p .row))) (rw (any (eqb (q .field) (p .field))) (any (eqb (q .part) (p .part)))))
     at (yes x) (yes y) (yes z) (yes w) = absurd (d (place-equal q p x y z w))
 

@@ -9,28 +9,29 @@ use native.Mathlib.Decide.{ℕ-discrete}
 use native.Mathlib.Omega.{arith}
 use lib.Dec.{T, eqb, ltb, ltb→lt}
 use lib.ListN.{length}
+use borrow.Author.Tests.{ne-eqb, lt-ltb, le-ltb}
 use Rattle.register.specs.Place.{Record, Place, Memory, apply, copied}
 use Rattle.register.specs.Area.{current, index, counter, r-end, size, limit, most-writes}
 use Rattle.register.specs.Area.{phase, last, pos, len, desk-write-number}
 use Rattle.register.specs.Area.{writer-phase, in-hand, writer-pos, writer-len, old-word}
 use Rattle.register.specs.Area.{writes-ended, write-record}
-use Rattle.register.specs.Steps.{Plan, refuse, accept, write-plan, reader-step, writer-step}
+use Rattle.register.specs.Steps.{Plan, refuse, accept, write-begins, reader-step, writer-step}
 use Rattle.register.specs.Steps.{begins-write, free}
-use Rattle.register.specs.Steps.{turns, turns-to}
+use Rattle.register.specs.Steps.{sets-phase, compares, sets-out}
 use Rattle.register.specs.Steps
 use Rattle.register.specs.History.{Got, Deed, read-began, write-began, went-on, looked, published, read-ended}
 use Rattle.register.specs.History.{write-ended}
 use Rattle.register.specs.Steps.{Move, read, write, step, mover, plan}
 use Rattle.register.specs.Demands.{none, also}
 use Rattle.register.proofs.Tests.{if-true, if-equal, if-less, if-at-most, end, next, at-number}
-use Rattle.register.proofs.Tests.{eqb-same, eqb-other, ltb-below, ltb-beyond, same-either, differ-and-same}
+use Rattle.register.proofs.Tests.{eqb-same, same-either, differ-and-same}
 use Rattle.register.proofs.Tests.{not-differ-and-same}
 use Rattle.register.proofs.Places.{place-equal, apply-append, copied-elsewhere, copied-column}
 use Rattle.register.proofs.Form1.{Own, AllOwn, own-append, own-current, own-slot, own-contents, own-desk}
 use Rattle.register.proofs.Form1.{own-read-record, own-writer, own-write-record, own-copied}
 use Rattle.register.proofs.Moves
-use Rattle.register.proofs.Moves.{Does, by, desk-with, sets-out, to-phase, fills-to, got-now, desk-record}
-use Rattle.register.proofs.Whole.{Whole}
+use Rattle.register.proofs.Moves.{Does, by, desk-with, to-phase, fills-to, got-now, desk-record}
+use Rattle.register.specs.Conditions.{Whole}
 
 -- ---- what is seen of a move, from the memories before and after it
 
@@ -69,11 +70,11 @@ begun m v =
 
     at : (q : Place) → Dec (q .part ≡ 3) → Dec (q .field ≡ 7) → Dec (q .row ≡ 0)
         → apply m (copied write-record 0 v) q ≡ desk-with m v q
-    at q (no x) b c = rw (eqb-other (q .part) 3 x) (other q (λ j e. x (ap (λ p. p .part) e)))
+    at q (no x) b c = rw (ne-eqb (q .part) 3 x) (other q (λ j e. x (ap (λ p. p .part) e)))
     at q (yes x) (no y) c =
-        rw (eqb-other (q .field) 7 y) (rw (any q (eqb (q .part) 3)) (other q (λ j e. y (ap (λ p. p .field) e))))
+        rw (ne-eqb (q .field) 7 y) (rw (any q (eqb (q .part) 3)) (other q (λ j e. y (ap (λ p. p .field) e))))
     at q (yes x) (yes y) (no z) =
-        rw (eqb-other (q .row) 0 z)
+        rw (ne-eqb (q .row) 0 z)
         (rw (any q (eqb (q .field) 7)) (rw (any q (eqb (q .part) 3)) (other q (λ j e. z (ap (λ p. p .row) e)))))
     at q (yes x) (yes y) (yes z) =
         rw (place-equal q (write-record (q .column)) x y z refl) (copied-column write-record apart m v (q .column))
@@ -108,9 +109,9 @@ module _ (n c : ℕ) (m : Memory) where
           → Does n c m (by r (went-on (m (phase r)))) m′
       on k e x = renamed (ap went-on (sym e)) x
 
-      looks : m (phase r) ≡ 1 → R (accept (turns r (turns-to m r)) false)
+      looks : m (phase r) ≡ 1 → R (accept (compares m r) false)
       looks e =
-          if-equal (λ k. R (accept (turns r k) false)) (index (m current)) (m (last r)) 4 2
+          if-equal (λ k. R (accept (sets-phase r k) false)) (index (m current)) (m (last r)) 4 2
           (λ x. (on 1 e (Moves.finds-same r l e x), also (desk 0 tt) none))
           (λ x. (on 1 e (Moves.finds-other r l e x), also (desk 0 tt) none))
 
@@ -136,10 +137,10 @@ module _ (n c : ℕ) (m : Memory) where
 
       sizes : m (phase r) ≡ 4
           → R (cond (eqb (m (size (m (last r)))) 0) (accept (Steps.takes m r ++ Steps.finishes r) true)
-          (accept (Steps.takes m r ++ turns r 5) false))
+          (accept (Steps.takes m r ++ sets-phase r 5) false))
       sizes e =
           if-equal R (m (size (m (last r)))) 0 (accept (Steps.takes m r ++ Steps.finishes r) true)
-          (accept (Steps.takes m r ++ turns r 5) false)
+          (accept (Steps.takes m r ++ sets-phase r 5) false)
           (λ x. (
             renamed (rw (eqb-same r, x)) (Moves.takes-none r l e x),
             also (desk 3 tt) (also (desk 4 tt) (also (desk 2 tt) (also (desk 5 tt) (also (desk 0 tt) none)))),
@@ -230,7 +231,7 @@ module _ (n c : ℕ) (m : Memory) where
         (next ends-write end))))))))
         (λ h y. omega arith)
 
-    begin-planned : (u : Record) → Outcome n (λ ends m′. write-began u) (write-plan n m c u)
+    begin-planned : (u : Record) → Outcome n (λ ends m′. write-began u) (write-begins n m c u)
     begin-planned u =
         if-at-most P (length u) c _ (refuse 4)
         (λ l.
@@ -255,13 +256,13 @@ module _ (n c : ℕ) (m : Memory) where
     plan-does (read r) =
         if-less (Outcome r (seen n m (read r))) r n _ (refuse 3)
         (λ l.
-        if-equal (Outcome r (seen n m (read r))) (m (phase r)) 0 (accept (turns r 1) false) (refuse 5)
+        if-equal (Outcome r (seen n m (read r))) (m (phase r)) 0 (accept (sets-phase r 1) false) (refuse 5)
         (λ e. (Moves.read-starts r l e, also (desk r l 0 tt) none)) (λ d y. omega arith))
         (λ l y. omega arith)
     plan-does (write u) = begin-planned u
     plan-does (step p) =
         if-less (Outcome p (seen n m (step p))) p n (reader-step n m p) _
-        (λ l. subst (λ b. Outcome p (seen-step b m p) (reader-step n m p)) (sym (ltb-below p n l))
+        (λ l. subst (λ b. Outcome p (seen-step b m p) (reader-step n m p)) (sym (lt-ltb p n l))
         (reader-planned p l))
         (λ l.
         if-equal (Outcome p (seen n m (step p))) p n (writer-step n m) (refuse 3)
@@ -271,4 +272,4 @@ module _ (n c : ℕ) (m : Memory) where
         writer-steps : Outcome n (seen n m (step n)) (writer-step n m)
         writer-steps =
             subst (λ b. Outcome n (seen-step b m n) (writer-step n m))
-            (sym (ltb-beyond n n (omega arith))) writer-planned
+            (sym (le-ltb n n (omega arith))) writer-planned

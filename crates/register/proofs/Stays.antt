@@ -3,29 +3,30 @@ use mathlib.Core.Path.{_≡_}
 use mathlib.Core.List.{_++_}
 use Prim.Native.Nat.{ℕ, suc, _*_, _≤_, _<_}
 use native.Mathlib.Omega.{arith}
+use borrow.Author.Tests.{ne-eqb}
 use Rattle.register.specs.Place.{Memory, apply}
 use Rattle.register.specs.Area.{current, index, counter, r-start, r-end, size, limit}
 use Rattle.register.specs.Area.{phase, last, pos, len, finished, in-hand, writer-pos}
 use Rattle.register.specs.Area.{old-word}
-use Rattle.register.specs.Steps.{turns, unbinds, binds, takes, copies, finishes, sizes, clears-start}
+use Rattle.register.specs.Steps.{sets-phase, unbinds, binds, takes, copies, finishes, sizes, clears-start}
 use Rattle.register.specs.Steps.{clears-end, freezes}
 use Rattle.register.specs.History.{Event}
-use Rattle.register.proofs.Tests.{eqb-same, eqb-other, at-each}
+use Rattle.register.proofs.Tests.{eqb-same, at-each}
 use Rattle.register.proofs.Moves
 use Rattle.register.proofs.Moves.{Does}
-use Rattle.register.proofs.Whole.{SlotWhole, DeskWhole, Slot, Desk, Whole}
+use Rattle.register.specs.Conditions.{SlotWhole, DeskWhole, Slot, Desk, Whole}
 use Rattle.register.proofs.WriterDesk.{further, copying-on, scanning-on, beginning, ending}
 
 module _ (n c : ℕ) (big : n < 4294967296) where
   -- ---- one reader's desk in another phase
   module _ {m : Memory} (v : Whole n c m) where
-    turning : (r k : ℕ) → r < n → k ≤ 4 → Whole n c (apply m (turns r k))
+    turning : (r k : ℕ) → r < n → k ≤ 4 → Whole n c (apply m (sets-phase r k))
     turning r k l hi =
         record {
           word = v .word;
           slot = v .slot;
-          desk = at-each (Desk n c (apply m (turns r k))) r (rw (eqb-same r) own)
-              (λ q h d. rw (eqb-other q r d) (v .desk q h));
+          desk = at-each (Desk n c (apply m (sets-phase r k))) r (rw (eqb-same r) own)
+              (λ q h d. rw (ne-eqb q r d) (v .desk q h));
           writer = v .writer;
         }
       where
@@ -48,7 +49,7 @@ module _ (n c : ℕ) (big : n < 4294967296) where
         record {
           word = v .word;
           slot = at-each (Slot n c (apply m (unbinds m r))) (m (last r)) (rw (eqb-same (m (last r))) own)
-              (λ s h d. rw (eqb-other s (m (last r)) d) (v .slot s h));
+              (λ s h d. rw (ne-eqb s (m (last r)) d) (v .slot s h));
           desk = turned .desk;
           writer = v .writer;
         }
@@ -63,7 +64,7 @@ module _ (n c : ℕ) (big : n < 4294967296) where
           word = record { slot = rw same (v .word .slot); count = rw counted more };
           slot = v .slot;
           desk = at-each (Desk n c (apply m (binds m r))) r (rw (eqb-same r) own)
-              (λ q h d. rw (eqb-other q r d) (v .desk q h));
+              (λ q h d. rw (ne-eqb q r d) (v .desk q h));
           writer = v .writer;
         }
       where
@@ -85,7 +86,7 @@ module _ (n c : ℕ) (big : n < 4294967296) where
               copying = λ e. absurd (omega arith);
             }
 
-    -- reader step 4, whatever phase it turns to
+    -- reader step 4, whatever phase it sets-phase to
     taking : (r k flag : ℕ) → r < n → flag ≤ 1 → k ≤ 5 → (k ≡ 5 → 0 < m (size (m (last r))))
         → DeskWhole n c k (m (last r)) 0 (m (size (m (last r)))) flag
     taking r k flag l fl hi more =
@@ -99,7 +100,7 @@ module _ (n c : ℕ) (big : n < 4294967296) where
           copying = more;
         }
 
-    -- reader step 5, whatever phase it turns to
+    -- reader step 5, whatever phase it sets-phase to
     copying : (r k flag : ℕ) → r < n → m (phase r) ≡ 5 → flag ≤ 1 → k ≤ 5
         → (k ≡ 5 → suc (m (pos r)) < m (len r))
         → DeskWhole n c k (m (last r)) (suc (m (pos r))) (m (len r)) flag
@@ -120,16 +121,16 @@ module _ (n c : ℕ) (big : n < 4294967296) where
         slot = v .slot;
         desk = at-each (Desk n c (apply m (takes m r ++ finishes r))) r
             (rw (eqb-same r) (taking v r 0 1 l (omega arith) (omega arith) (λ y. absurd (omega arith))))
-            (λ q h d. rw (eqb-other q r d) (v .desk q h));
+            (λ q h d. rw (ne-eqb q r d) (v .desk q h));
         writer = v .writer;
       }
   stays-whole {m = m} v (Moves.takes-size r l e x) =
       record {
         word = v .word;
         slot = v .slot;
-        desk = at-each (Desk n c (apply m (takes m r ++ turns r 5))) r
+        desk = at-each (Desk n c (apply m (takes m r ++ sets-phase r 5))) r
             (rw (eqb-same r) (taking v r 5 (m (finished r)) l (v .desk r l .flag) (omega arith) (λ y. omega arith)))
-            (λ q h d. rw (eqb-other q r d) (v .desk q h));
+            (λ q h d. rw (ne-eqb q r d) (v .desk q h));
         writer = v .writer;
       }
   stays-whole {m = m} v (Moves.copies-word r l e x) =
@@ -140,7 +141,7 @@ module _ (n c : ℕ) (big : n < 4294967296) where
             (rw (eqb-same r)
             (copying v r (m (phase r)) (m (finished r)) l e (v .desk r l .flag) (v .desk r l .phases)
             (λ y. omega (arith, v .desk r l .copying e))))
-            (λ q h d. rw (eqb-other q r d) (v .desk q h));
+            (λ q h d. rw (ne-eqb q r d) (v .desk q h));
         writer = v .writer;
       }
   stays-whole {m = m} v (Moves.copies-last r l e x) =
@@ -149,7 +150,7 @@ module _ (n c : ℕ) (big : n < 4294967296) where
         slot = v .slot;
         desk = at-each (Desk n c (apply m (copies m r ++ finishes r))) r
             (rw (eqb-same r) (copying v r 0 1 l e (omega arith) (omega arith) (λ y. absurd (omega arith))))
-            (λ q h d. rw (eqb-other q r d) (v .desk q h));
+            (λ q h d. rw (ne-eqb q r d) (v .desk q h));
         writer = v .writer;
       }
   stays-whole v (Moves.write-starts u l e more) =
@@ -199,7 +200,7 @@ module _ (n c : ℕ) (big : n < 4294967296) where
             (rw (eqb-same (m in-hand))
             (let s = v .slot (m in-hand)
             (v .writer .hand-one) in record { start = s .start; end = s .end; words = v .writer .words }))
-            (λ s h d. rw (eqb-other s (m in-hand) d) (v .slot s h));
+            (λ s h d. rw (ne-eqb s (m in-hand) d) (v .slot s h));
         desk = v .desk;
         writer = further (v .writer) 4 (m writer-pos) (m old-word) (λ z. omega arith) (omega arith) (omega arith)
             (v .writer .part) (v .writer .before);
@@ -211,7 +212,7 @@ module _ (n c : ℕ) (big : n < 4294967296) where
             (rw (eqb-same (m in-hand))
             (let s = v .slot (m in-hand)
             (v .writer .hand-one) in record { start = omega arith; end = s .end; words = s .words }))
-            (λ s h d. rw (eqb-other s (m in-hand) d) (v .slot s h));
+            (λ s h d. rw (ne-eqb s (m in-hand) d) (v .slot s h));
         desk = v .desk;
         writer = further (v .writer) 5 (m writer-pos) (m old-word) (λ z. omega arith) (omega arith) (omega arith)
             (v .writer .part) (v .writer .before);
@@ -223,7 +224,7 @@ module _ (n c : ℕ) (big : n < 4294967296) where
             (rw (eqb-same (m in-hand))
             (let s = v .slot (m in-hand)
             (v .writer .hand-one) in record { start = s .start; end = omega arith; words = s .words }))
-            (λ s h d. rw (eqb-other s (m in-hand) d) (v .slot s h));
+            (λ s h d. rw (ne-eqb s (m in-hand) d) (v .slot s h));
         desk = v .desk;
         writer = further (v .writer) 6 (m writer-pos) (m old-word) (λ z. omega arith) (omega arith) (omega arith)
             (v .writer .part) (v .writer .before);
@@ -246,7 +247,7 @@ module _ (n c : ℕ) (big : n < 4294967296) where
             (rw (eqb-same old)
             (let s = v .slot old (v .writer .before .slot) in
             record { start = v .writer .before .count; end = s .end; words = s .words }))
-            (λ s h d. rw (eqb-other s old d) (v .slot s h));
+            (λ s h d. rw (ne-eqb s old d) (v .slot s h));
         desk = v .desk;
         writer = ending (v .writer);
       }

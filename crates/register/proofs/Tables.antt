@@ -11,11 +11,12 @@ use native.Mathlib.Omega.{arith}
 use lib.Dec.{T, eqb, ltb, ltb→lt, eqb→eq}
 use lib.ListN.{length, getD, set, length-set, take}
 use lib.Seq.{getD-set-same, getD-set-other, drop-cons}
+use borrow.Author.Tests.{eq-eqb, ne-eqb, lt-ltb}
 use Rattle.register.specs.Place.{Place, changed, Store, apply}
 use Rattle.register.specs.Table.{Table, width, base, total, address, has, view, store}
 use Rattle.register.specs.Calls.{words-from}
 use Rattle.register.specs.Demands.{Each, also, Untouched}
-use Rattle.register.proofs.Tests.{both, eqb-equal, eqb-other, ltb-below, true-passes}
+use Rattle.register.proofs.Tests.{both, true-passes}
 use Rattle.register.proofs.Places.{place-equal, place-discrete, changed-here, changed-elsewhere, row, row-same}
 
 -- ---- rows of one width
@@ -66,10 +67,10 @@ module _ (t : Table) where
       go : p .part < t .parts → p .row < t .rows (p .part) → Last (eqb (p .field) (t .singles (p .part)))
           → Dec (p .field ≡ t .singles (p .part)) → Has p
       go x y w (yes e) =
-          let z : T (ltb (p .column) (t .last-words (p .part))) = subst Last (eqb-equal _ _ e) w in
+          let z : T (ltb (p .column) (t .last-words (p .part))) = subst Last (eq-eqb _ _ e) w in
           record { part = x; row = y; field = omega arith; many = λ f. ltb→lt _ _ z; single = λ d. absurd (d e) }
       go x y w (no d) =
-          let z : T (ltb (p .field) (t .singles (p .part)) && eqb (p .column) 0) = subst Last (eqb-other _ _ d) w in
+          let z : T (ltb (p .field) (t .singles (p .part)) && eqb (p .column) 0) = subst Last (ne-eqb _ _ d) w in
           let (a, b) = both (ltb (p .field) (t .singles (p .part))) _ z in
           record {
             part = x;
@@ -81,16 +82,16 @@ module _ (t : Table) where
 
   pub has-it : (p : Place) → Has p → has t p ≡ true
   has-it p h =
-      rw (ltb-below _ _ (h .part), ltb-below _ _ (h .row)) (go (ℕ-discrete (p .field) (t .singles (p .part))))
+      rw (lt-ltb _ _ (h .part), lt-ltb _ _ (h .row)) (go (ℕ-discrete (p .field) (t .singles (p .part))))
     where
       go : Dec (p .field ≡ t .singles (p .part))
           → cond (eqb (p .field) (t .singles (p .part))) (ltb (p .column) (t .last-words (p .part)))
           (ltb (p .field) (t .singles (p .part)) && eqb (p .column) 0)
           ≡ true
-      go (yes e) = rw (eqb-equal _ _ e) (ltb-below _ _ (h .many e))
+      go (yes e) = rw (eq-eqb _ _ e) (lt-ltb _ _ (h .many e))
       go (no d) =
-          rw (eqb-other _ _ d, ltb-below (p .field) (t .singles (p .part)) (omega (arith, h .field)))
-          (eqb-equal (p .column) 0 (h .single d))
+          rw (ne-eqb _ _ d, lt-ltb (p .field) (t .singles (p .part)) (omega (arith, h .field)))
+          (eq-eqb (p .column) 0 (h .single d))
 
   -- ---- addresses
 

@@ -9,15 +9,16 @@ use Prim.Native.Nat.{ℕ, suc, _*_, _≤_, _<_}
 use native.Mathlib.Omega.{arith}
 use lib.Dec.{eqb, ltb}
 use lib.ListN.{length, getD}
+use borrow.Author.Tests.{ne-eqb, lt-ltb}
 use Rattle.register.specs.Place.{Record, Memory, apply}
 use Rattle.register.specs.Area.{current, index, size, slot-write-number, contents, phase, last, pos, len}
 use Rattle.register.specs.Area.{desk-write-number, read-record}
 use Rattle.register.specs.Area.{writer-phase, in-hand, writer-pos, writer-len, writes-ended, write-record}
-use Rattle.register.specs.Steps.{turns, unbinds, binds, takes, copies, finishes}
+use Rattle.register.specs.Steps.{sets-phase, unbinds, binds, takes, copies, finishes}
 use Rattle.register.specs.History.{Deed, Event, read-began, write-began, went-on, looked, published, read-ended}
 use Rattle.register.specs.History.{write-ended}
 use Rattle.register.specs.History.{History, noted}
-use Rattle.register.proofs.Tests.{hit, miss, eqb-same, eqb-other, ltb-below, at-each}
+use Rattle.register.proofs.Tests.{hit, miss, eqb-same, at-each}
 use Rattle.register.proofs.Places.{row, row-same, row-record}
 use Rattle.register.proofs.Placed.{sound-noted, began-noted, Needs, where-published}
 use Rattle.register.proofs.Placed.{where-closed}
@@ -40,7 +41,7 @@ high = omega arith
 desk-holds : (u : Record) (f : ℕ → ℕ) → row (length u) (λ j. cond (ltb j (length u)) (getD u j 0) (f j)) ≡ u
 desk-holds u f =
     row-same (length u) (λ j. cond (ltb j (length u)) (getD u j 0) (f j)) (λ j. getD u j 0)
-    (λ j l. rw (ltb-below j (length u) l)) ∙ row-record u
+    (λ j l. rw (lt-ltb j (length u) l)) ∙ row-record u
 
 module _ (n : ℕ) (first : Record) where
   module _ (big : n < 4294967296) (total : ℕ) {m : Memory} {h : History} (i : Counted n m) (v : Told n first m h)
@@ -92,11 +93,11 @@ module _ (n : ℕ) (first : Record) where
 
     -- the slot in hand is not the current one, and no reader's that matters
     not-current : 2 ≤ m writer-phase → m writer-phase ≤ 6 → eqb (index (m current)) (m in-hand) ≡ false
-    not-current lo hi = eqb-other (index (m current)) (m in-hand) (λ y. hand-apart n m i lo hi (sym y))
+    not-current lo hi = ne-eqb (index (m current)) (m in-hand) (λ y. hand-apart n m i lo hi (sym y))
 
     not-bound : (q : ℕ) → q < n → 2 ≤ m writer-phase → m writer-phase ≤ 6 → 4 ≤ m (phase q)
         → eqb (m (last q)) (m in-hand) ≡ false
-    not-bound q k lo hi y = eqb-other (m (last q)) (m in-hand) (unheld n m i lo hi q k (λ z. omega arith))
+    not-bound q k lo hi y = ne-eqb (m (last q)) (m in-hand) (unheld n m i lo hi q k (λ z. omega arith))
 
     -- writer step 2 is in no reader's way
     filled-elsewhere : 2 ≤ m writer-phase → m writer-phase ≤ 6 → (k : ℕ) → (q : ℕ) → q < n
@@ -122,53 +123,53 @@ module _ (n : ℕ) (first : Record) where
         → Told n first m′ (noted total h (e .who) (e .what))
     tells (Moves.read-starts r l e) =
         told-by r read-began tt (v .newest-one)
-        (at-each (Reads n first (apply m (turns r 1)) (noted total h r read-began)) r
+        (at-each (Reads n first (apply m (sets-phase r 1)) (noted total h r read-began)) r
         (rw (eqb-same r) (not-yet 1 (omega arith)))
-        (λ q k d. rw (eqb-other q r d) (reading-later (v .reader q k))))
+        (λ q k d. rw (ne-eqb q r d) (reading-later (v .reader q k))))
         (v .writer)
     tells (Moves.finds-same r l e x) =
         told-by r (went-on 1) tt (v .newest-one)
-        (at-each (Reads n first (apply m (turns r 4)) (noted total h r (went-on 1))) r
+        (at-each (Reads n first (apply m (sets-phase r 4)) (noted total h r (went-on 1))) r
         (rw (eqb-same r) (rw (← x) (newly-bound r)))
-        (λ q k d. rw (eqb-other q r d) (reading-later (v .reader q k))))
+        (λ q k d. rw (ne-eqb q r d) (reading-later (v .reader q k))))
         (v .writer)
     tells (Moves.finds-other r l e x) =
         told-by r (went-on 1) tt (v .newest-one)
-        (at-each (Reads n first (apply m (turns r 2)) (noted total h r (went-on 1))) r
+        (at-each (Reads n first (apply m (sets-phase r 2)) (noted total h r (went-on 1))) r
         (rw (eqb-same r) (not-yet 2 (omega arith)))
-        (λ q k d. rw (eqb-other q r d) (reading-later (v .reader q k))))
+        (λ q k d. rw (ne-eqb q r d) (reading-later (v .reader q k))))
         (v .writer)
     tells (Moves.leaves-slot r l e x) =
         told-by r (went-on 2) tt (v .newest-one)
         (at-each (Reads n first (apply m (unbinds m r)) (noted total h r (went-on 2))) r
         (rw (eqb-same r) (not-yet 3 (omega arith)))
-        (λ q k d. rw (eqb-other q r d) (reading-later (v .reader q k))))
+        (λ q k d. rw (ne-eqb q r d) (reading-later (v .reader q k))))
         (v .writer)
     tells (Moves.joins-slot r l e x) =
         let same : index (suc (m current)) ≡ index (m current) = omega arith in
         told-by r (went-on 3) tt (rw same (v .newest-one))
         (at-each (Reads n first (apply m (binds m r)) (noted total h r (went-on 3))) r
         (rw (eqb-same r, same) (newly-bound r))
-        (λ q k d. rw (eqb-other q r d) (reading-later (v .reader q k))))
+        (λ q k d. rw (ne-eqb q r d) (reading-later (v .reader q k))))
         (v .writer)
     tells (Moves.takes-none r l e x) =
         let g = got-now m (m (slot-write-number (m (last r)))) [] in
         told-by r (read-ended g) (no-words (v .reader r l) e x) (v .newest-one)
         (at-each (Reads n first (apply m (takes m r ++ finishes r)) (noted total h r (read-ended g))) r
         (rw (eqb-same r) (not-yet 0 (omega arith)))
-        (λ q k d. rw (eqb-other q r d) (reading-later (v .reader q k))))
+        (λ q k d. rw (ne-eqb q r d) (reading-later (v .reader q k))))
         (v .writer)
     tells (Moves.takes-size r l e x) =
         told-by r (went-on 4) tt (v .newest-one)
-        (at-each (Reads n first (apply m (takes m r ++ turns r 5)) (noted total h r (went-on 4))) r
+        (at-each (Reads n first (apply m (takes m r ++ sets-phase r 5)) (noted total h r (went-on 4))) r
         (rw (eqb-same r) (copy-starts (v .reader r l) e x))
-        (λ q k d. rw (eqb-other q r d) (reading-later (v .reader q k))))
+        (λ q k d. rw (ne-eqb q r d) (reading-later (v .reader q k))))
         (v .writer)
     tells (Moves.copies-word r l e x) =
         told-by r (went-on 5) tt (v .newest-one)
         (at-each (Reads n first (apply m (copies m r)) (noted total h r (went-on 5))) r
         (rw (eqb-same r) (copy-goes-on (v .reader r l) (mine-then r) e x (mine-new r) (mine-kept r)))
-        (λ q k d. rw (eqb-other q r d) (reading-later (v .reader q k))))
+        (λ q k d. rw (ne-eqb q r d) (reading-later (v .reader q k))))
         (v .writer)
     tells (Moves.copies-last r l e x) =
         let g = got-now m (m (desk-write-number r)) (desk-record (apply m (copies m r)) r) in
@@ -176,11 +177,11 @@ module _ (n : ℕ) (first : Record) where
         (rw (eqb-same r) (copy-ends (v .reader r l) (mine-then r) e x (mine-new r) (mine-kept r))) (v .newest-one)
         (at-each (Reads n first (apply m (copies m r ++ finishes r)) (noted total h r (read-ended g))) r
         (rw (eqb-same r) (not-yet 0 (omega arith)))
-        (λ q k d. rw (eqb-other q r d) (reading-later (v .reader q k))))
+        (λ q k d. rw (ne-eqb q r d) (reading-later (v .reader q k))))
         (v .writer)
     tells (Moves.write-starts u l e more) =
         told-by n (write-began u) tt (v .newest-one)
-        (λ q k. rw (eqb-other q n (λ z. omega arith)) (reading-later (v .reader q k)))
+        (λ q k. rw (ne-eqb q n (λ z. omega arith)) (reading-later (v .reader q k)))
         (write-begins (v .writer) high u (λ j. cond (ltb j (length u)) (getD u j 0) (m (write-record j))) e
         (desk-holds u (λ j. m (write-record j))))
     tells (Moves.picks-empty e d x y) =

@@ -8,6 +8,7 @@ use native.Mathlib.Decide.{ℕ-discrete}
 use native.Mathlib.Omega.{arith}
 use lib.Dec.{T, T-not, eqb, leb, ltb, eqb→eq, eqb-refl, leb→le, le→leb, ltb→lt, lt→ltb, nltb→le}
 use lib.ListN.{length, getD}
+use borrow.Author.Tests.{eq-eqb, ne-eqb}
 use Rattle.register.specs.Area.{all, every}
 use Rattle.register.specs.Demands.{Each, none, also}
 
@@ -22,26 +23,6 @@ true-passes b e = rw e tt
 
 pub eqb-same : (n : ℕ) → eqb n n ≡ true
 eqb-same n = passed (eqb n n) (eqb-refl n)
-
-pub eqb-equal : (m n : ℕ) → m ≡ n → eqb m n ≡ true
-eqb-equal m n e = rw e (eqb-same n)
-
-pub eqb-other : (m n : ℕ) → m ≢ n → eqb m n ≡ false
-eqb-other m n d = go (eqb m n) refl
-  where
-    go : (b : Bool) → eqb m n ≡ b → b ≡ false
-    go true e = absurd (d (eqb→eq m n (true-passes (eqb m n) e)))
-    go false e = refl
-
-pub ltb-below : (m n : ℕ) → m < n → ltb m n ≡ true
-ltb-below m n l = passed (ltb m n) (lt→ltb m n l)
-
-pub ltb-beyond : (m n : ℕ) → n ≤ m → ltb m n ≡ false
-ltb-beyond m n h = go (ltb m n) refl
-  where
-    go : (b : Bool) → ltb m n ≡ b → b ≡ false
-    go true e = absurd (omega (arith, ltb→lt m n (true-passes (ltb m n) e)))
-    go false e = refl
 
 -- ---- tests joined
 
@@ -83,11 +64,11 @@ unless-failed false b f = f refl
 pub differ-and-same : (a b c d : ℕ) → not (eqb a b) && eqb c d ≡ true → (a ≢ b) × (c ≡ d)
 differ-and-same a b c d e =
     let (t, u) = both (not (eqb a b)) (eqb c d) (true-passes _ e) in
-    (λ x. T-not (eqb a b) t (true-passes _ (eqb-equal a b x)), eqb→eq c d u)
+    (λ x. T-not (eqb a b) t (true-passes _ (eq-eqb a b x)), eqb→eq c d u)
 
 pub not-differ-and-same : (a b c d : ℕ) → not (eqb a b) && eqb c d ≡ false → a ≢ b → c ≢ d
 not-differ-and-same a b c d e x y =
-    let z : not (eqb a b) && eqb c d ≡ true = rw (eqb-other a b x, eqb-equal c d y) in
+    let z : not (eqb a b) && eqb c d ≡ true = rw (ne-eqb a b x, eq-eqb c d y) in
     subst T (sym z ∙ e) tt
 
 -- each of a range
@@ -121,7 +102,7 @@ pub hit {ℓ} : {A : Type ℓ} (n : ℕ) (x y : A) → cond (eqb n n) x y ≡ x
 hit n x y = rw (eqb-same n)
 
 pub miss {ℓ} : {A : Type ℓ} (m n : ℕ) → m ≢ n → (x y : A) → cond (eqb m n) x y ≡ y
-miss m n d x y = rw (eqb-other m n d)
+miss m n d x y = rw (ne-eqb m n d)
 
 pub same-either {ℓ} : {A : Type ℓ} (b : Bool) (x : A) → cond b x x ≡ x
 same-either true x = refl
@@ -139,7 +120,7 @@ pub if-equal : {A : Type 0} (P : A → Type 0) (m n : ℕ) (x y : A) → (m ≡ 
 if-equal P m n x y f g = go (ℕ-discrete m n)
   where
     go : Dec (m ≡ n) → P (cond (eqb m n) x y)
-    go (yes e) = subst P (sym (rw (eqb-equal m n e))) (f e)
+    go (yes e) = subst P (sym (rw (eq-eqb m n e))) (f e)
     go (no d) = subst P (sym (miss m n d x y)) (g d)
 
 pub if-less : {A : Type 0} (P : A → Type 0) (m n : ℕ) (x y : A) → (m < n → P x) → (n ≤ m → P y)

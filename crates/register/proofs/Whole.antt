@@ -5,62 +5,18 @@ use mathlib.Core.Bool.{false}
 use Prim.Native.Nat.{ℕ, _+_, _≤_, _<_}
 use native.Mathlib.Omega.{arith}
 use lib.Dec.{T, eqb, leb, ltb, eqb→eq, leb→le, le→leb, ltb→lt, lt→ltb}
+use borrow.Author.Tests.{eq-eqb, ne-eqb}
 use Rattle.register.specs.Place.{Memory}
 use Rattle.register.specs.Area.{current, index, counter, r-start, r-end, size, limit, most-writes}
 use Rattle.register.specs.Area.{phase, last, pos, len, finished}
 use Rattle.register.specs.Area.{writer-phase, last-slot, in-hand, writer-pos, writer-len, old-word}
 use Rattle.register.specs.Area.{writes-ended, all, word-sound, slot-sound, desk-sound, writer-sound}
 use Rattle.register.specs.Area.{slot-tests, desk-tests, writer-tests, memory-tests}
+use Rattle.register.specs.Conditions.{WordWhole, Slot, Desk, Writer, Whole}
 use Rattle.register.specs.Demands.{Each, none, also}
 use Rattle.register.proofs.Tests.{both, joined, each-passes, all-pass}
 use Rattle.register.proofs.Tests.{where-passed, unless-passed, where-failed, unless-failed, each-of, of-each}
-use Rattle.register.proofs.Tests.{eqb-equal, eqb-other, true-passes}
-
-pub record WordWhole (n word : ℕ) : Type 0 where
-  pub slot : index word < n + 2
-  pub count : counter word ≤ limit n
-
-pub record SlotWhole (n c started gone size : ℕ) : Type 0 where
-  pub start : started ≤ limit n
-  pub end : gone ≤ limit n
-  pub words : size ≤ c
-
-pub record DeskWhole (n c phase last pos len finished : ℕ) : Type 0 where
-  pub phases : phase ≤ 5
-  pub slot : last < n + 2
-  pub part : pos ≤ len
-  pub words : len ≤ c
-  pub flag : finished ≤ 1
-  pub copying : phase ≡ 5 → pos < len
-
-pub record WriterWhole (n c phase last hand pos len old ended : ℕ) : Type 0 where
-  pub phases : phase ≤ 7
-  pub last-one : last < n + 2
-  pub hand-one : hand < n + 2
-  pub part : pos ≤ len
-  pub words : len ≤ c
-  pub before : WordWhole n old
-  pub copying : phase ≡ 2 → pos < len
-  pub unmoved : phase ≡ 1 → pos ≡ 0
-  pub room : phase ≢ 0 → ended < most-writes
-
-module _ (n c : ℕ) (m : Memory) where
-  abbrev pub Slot : ℕ → Type 0
-  Slot s = SlotWhole n c (m (r-start s)) (m (r-end s)) (m (size s))
-
-  abbrev pub Desk : ℕ → Type 0
-  Desk r = DeskWhole n c (m (phase r)) (m (last r)) (m (pos r)) (m (len r)) (m (finished r))
-
-  abbrev pub Writer : Type 0
-  Writer =
-      WriterWhole n c (m writer-phase) (m last-slot) (m in-hand) (m writer-pos) (m writer-len) (m old-word)
-      (m writes-ended)
-
-  pub record Whole : Type 0 where
-    pub word : WordWhole n (m current)
-    pub slot : (s : ℕ) → s < n + 2 → Slot s
-    pub desk : (r : ℕ) → r < n → Desk r
-    pub writer : Writer
+use Rattle.register.proofs.Tests.{true-passes}
 
 -- ---- from the test
 
@@ -80,7 +36,7 @@ desk-facts n c m r (also a (also b (also d (also e (also f (also g none)))))) =
       part = leb→le _ _ d;
       words = leb→le _ _ e;
       flag = leb→le _ _ f;
-      copying = λ y. ltb→lt _ _ (where-passed _ _ g (eqb-equal _ _ y));
+      copying = λ y. ltb→lt _ _ (where-passed _ _ g (eq-eqb _ _ y));
     }
 
 writer-facts : (n c : ℕ) (m : Memory) → Each T (writer-tests n c m) → Writer n c m
@@ -92,9 +48,9 @@ writer-facts n c m (also a (also b (also d (also e (also f (also g (also h (also
       part = leb→le _ _ e;
       words = leb→le _ _ f;
       before = word-of n (m old-word) g;
-      copying = λ y. ltb→lt _ _ (where-passed _ _ h (eqb-equal _ _ y));
-      unmoved = λ y. eqb→eq _ _ (where-passed _ _ i (eqb-equal _ _ y));
-      room = λ y. ltb→lt _ _ (where-failed _ _ j (eqb-other _ _ y));
+      copying = λ y. ltb→lt _ _ (where-passed _ _ h (eq-eqb _ _ y));
+      unmoved = λ y. eqb→eq _ _ (where-passed _ _ i (eq-eqb _ _ y));
+      room = λ y. ltb→lt _ _ (where-failed _ _ j (ne-eqb _ _ y));
     }
 
 memory-facts : (n c : ℕ) (m : Memory) → Each T (memory-tests n c m) → Whole n c m
@@ -153,10 +109,10 @@ of-writer n c m v =
     (also (unless-failed (eqb (m writer-phase) 0) _ (λ e. lt→ltb _ _ (v .room (busy e)))) none)))))))))
   where
     still : m writer-pos ≡ 0 → T (eqb (m writer-pos) 0)
-    still e = true-passes _ (eqb-equal _ _ e)
+    still e = true-passes _ (eq-eqb _ _ e)
 
     busy : eqb (m writer-phase) 0 ≡ false → m writer-phase ≢ 0
-    busy e z = subst T (sym (eqb-equal _ _ z) ∙ e) tt
+    busy e z = subst T (sym (eq-eqb _ _ z) ∙ e) tt
 
 pub of-whole : (n c : ℕ) (m : Memory) → Whole n c m → T (all (memory-tests n c m))
 of-whole n c m v =

@@ -4,7 +4,7 @@ use mathlib.Core.Logic.{_≢_}
 use Prim.Native.Nat.{ℕ, suc, _+_, _≤_, _<_}
 use native.Mathlib.Omega.{arith}
 use Rattle.register.specs.Area.{most-writes}
-use Rattle.register.proofs.Whole.{WordWhole, WriterWhole}
+use Rattle.register.specs.Conditions.{WordWhole, WriterWhole}
 
 module _ {n c phase last hand pos len old ended : ℕ} (v : WriterWhole n c phase last hand pos len old ended) where
   pub further : (k pos′ old′ : ℕ) → phase ≢ 0 → 3 ≤ k → k ≤ 7 → pos′ ≤ len

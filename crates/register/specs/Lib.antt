@@ -2,6 +2,7 @@
 pub mod Place
 pub mod Table
 pub mod Area
+pub mod Conditions
 pub mod Steps
 pub mod Calls
 pub mod History

@@ -21,12 +21,12 @@ at-phase p plans = getD plans p (refuse 2)
 
 -- ---- the stores of reader r
 
-abbrev pub turns : ℕ → ℕ → List Store
-turns r p = phase r ≔ p ∷ []
+abbrev pub sets-phase : ℕ → ℕ → List Store
+sets-phase r p = phase r ≔ p ∷ []
 
 -- 1 (R1): look at current's index. Equal to last: phase 4, otherwise phase 2
-abbrev pub turns-to : Memory → ℕ → ℕ
-turns-to m r = cond (eqb (index (m current)) (m (last r))) 4 2
+abbrev pub compares : Memory → ℕ → List Store
+compares m r = sets-phase r (cond (eqb (index (m current)) (m (last r))) 4 2)
 
 -- 2 (R3): add 1 to r_end of slot last
 abbrev pub unbinds : Memory → ℕ → List Store
@@ -53,11 +53,13 @@ finishes r = finished r ≔ 1 ∷ phase r ≔ 0 ∷ []
 
 -- ---- the stores of the writer
 
--- the record, and the desk's other words; words past len stay
+-- a begin: len, slot in hand 0, pos 0, phase 1
+abbrev pub sets-out : Record → List Store
+sets-out v = writer-len ≔ length v ∷ in-hand ≔ 0 ∷ writer-pos ≔ 0 ∷ writer-phase ≔ 1 ∷ []
+
+-- behind the record, which is copied into the desk; words past len stay
 abbrev pub begins-write : Record → List Store
-begins-write v =
-    copied write-record 0 v
-    ++ (writer-len ≔ length v ∷ in-hand ≔ 0 ∷ writer-pos ≔ 0 ∷ writer-phase ≔ 1 ∷ [])
+begins-write v = copied write-record 0 v ++ sets-out v
 
 -- 1 (W1): the slot in hand is free if it is not last slot and its r_start equals its r_end
 abbrev pub free : Memory → Bool
@@ -106,13 +108,13 @@ freezes m =
 
 module _ (n : ℕ) (m : Memory) where
   -- a begin of reader r
-  abbrev pub read-plan : ℕ → Plan
-  read-plan r = cond (ltb r n) (cond (eqb (m (phase r)) 0) (accept (turns r 1) false) (refuse 5)) (refuse 3)
+  abbrev pub read-begins : ℕ → Plan
+  read-begins r = cond (ltb r n) (cond (eqb (m (phase r)) 0) (accept (sets-phase r 1) false) (refuse 5)) (refuse 3)
 
   -- a begin of the writer with a record, where records have at most c words. A word holds no more than 2^64 − 1, so
   -- that writes ended "is" 2^64 − 1 where it is not below it
-  abbrev pub write-plan : ℕ → Record → Plan
-  write-plan c v =
+  abbrev pub write-begins : ℕ → Record → Plan
+  write-begins c v =
       cond (leb (length v) c)
       (cond (eqb (m writer-phase) 0)
       (cond (ltb (m writes-ended) most-writes) (accept (begins-write v) false) (refuse 7)) (refuse 5))
@@ -120,7 +122,7 @@ module _ (n : ℕ) (m : Memory) where
 
   -- reader r in phase 1 to 5
   abbrev pub reader-1 : ℕ → Plan
-  reader-1 r = accept (turns r (turns-to m r)) false
+  reader-1 r = accept (compares m r) false
 
   abbrev pub reader-2 : ℕ → Plan
   reader-2 r = cond (ltb (m (r-end (m (last r)))) (limit n)) (accept (unbinds m r) false) (refuse 2)
@@ -131,7 +133,7 @@ module _ (n : ℕ) (m : Memory) where
   abbrev pub reader-4 : ℕ → Plan
   reader-4 r =
       cond (eqb (m (size (m (last r)))) 0) (accept (takes m r ++ finishes r) true)
-      (accept (takes m r ++ turns r 5) false)
+      (accept (takes m r ++ sets-phase r 5) false)
 
   abbrev pub reader-5 : ℕ → Plan
   reader-5 r =
@@ -144,8 +146,8 @@ module _ (n : ℕ) (m : Memory) where
       (refuse 6 ∷ reader-1 r ∷ reader-2 r ∷ reader-3 r ∷ reader-4 r ∷ reader-5 r ∷ [])
 
   -- the writer in phase 1
-  abbrev pub writer-1 : Plan
-  writer-1 =
+  abbrev pub looks : Plan
+  looks =
       cond (free m) (accept (picks m) false) (cond (eqb (m in-hand) (suc n)) (refuse 8) (accept (passes m) false))
 
   -- one step of the writer
@@ -153,7 +155,7 @@ module _ (n : ℕ) (m : Memory) where
   writer-step =
       at-phase (m writer-phase)
       (refuse 6
-      ∷ writer-1
+      ∷ looks
       ∷ accept (fills m) false
       ∷ accept (sizes m) false
       ∷ accept (clears-start m) false
@@ -163,8 +165,8 @@ module _ (n : ℕ) (m : Memory) where
       ∷ [])
 
   -- processes 0 to N − 1 are the readers, process N is the writer
-  abbrev pub step-plan : ℕ → Plan
-  step-plan p = cond (ltb p n) (reader-step p) (cond (eqb p n) writer-step (refuse 3))
+  abbrev pub process-step : ℕ → Plan
+  process-step p = cond (ltb p n) (reader-step p) (cond (eqb p n) writer-step (refuse 3))
 
 -- ---- moves
 
@@ -181,6 +183,6 @@ mover n (write v) = n
 mover n (step p) = p
 
 abbrev pub plan : ℕ → ℕ → Memory → Move → Plan
-plan n c m (read r) = read-plan n m r
-plan n c m (write v) = write-plan n m c v
-plan n c m (step p) = step-plan n m p
+plan n c m (read r) = read-begins n m r
+plan n c m (write v) = write-begins n m c v
+plan n c m (step p) = process-step n m p

@@ -6,13 +6,13 @@ use mathlib.Core.List.{List}
 use Prim.Native.Nat.{ℕ, _≤_, _<_}
 use borrow.Author.Tests.{le-leb, lt-leb}
 use lib.ListN.{length}
+use borrow.Author.Tests.{eq-eqb, ne-eqb, lt-ltb, le-ltb}
 use Rattle.register.specs.Place.{Record, _≔_, copied}
 use Rattle.register.specs.Area.{form1, most-writes, writer-phase, in-hand, writer-pos, writer-len, writes-ended}
 use Rattle.register.specs.Area.{write-record}
-use Rattle.register.specs.Steps.{begins-write, write-plan}
-use Rattle.register.proofs.Moves.{sets-out}
-use Rattle.register.proofs.Tests.{eqb-equal, eqb-other, ltb-below, ltb-beyond}
-use Rattle.area.specs.Words.{memory-of, after}
+use Rattle.register.specs.Steps.{begins-write, write-begins}
+use Rattle.register.specs.Steps.{sets-out}
+use Rattle.area.specs.Words.{memory-of, words-after}
 use Rattle.area.specs.declared.Layout.{Layout}
 use Rattle.answer.specs.declared.Answer.{Answer as Returned}
 use Rattle.answer.specs.Carried.{whole, carried}
@@ -22,34 +22,34 @@ use Rattle.answer.proofs.Stored.{stored, store-append, returned, refuses, accep
 
 pub set-out : (p : Layout) (a : List ℕ) (v : Record) {b d e f : List ℕ}
     → b ≡ stored p a (writer-len ≔ length v) → d ≡ stored p b (in-hand ≔ 0)
-    → e ≡ stored p d (writer-pos ≔ 0) → f ≡ stored p e (writer-phase ≔ 1) → f ≡ after p a (sets-out v)
+    → e ≡ stored p d (writer-pos ≔ 0) → f ≡ stored p e (writer-phase ≔ 1) → f ≡ words-after p a (sets-out v)
 set-out p a v first second third fourth = rw (fourth, third, second, first)
 
 -- ---- the begin
 
 module _ (p : Layout) (a : List ℕ) (v : Record) {x : Returned} where
   pub too-long : p .c < length v → x ≡ returned 4 false
-      → whole x a ≡ carried p (p .n) a (write-plan (p .n) (memory-of p a) (p .c) v)
+      → whole x a ≡ carried p (p .n) a (write-begins (p .n) (memory-of p a) (p .c) v)
   too-long long answer = rw (lt-leb _ _ long) (refuses p (p .n) a answer)
 
   pub still-writing : {phase : ℕ} → length v ≤ p .c → phase ≡ memory-of p a writer-phase → phase ≢ 0
-      → x ≡ returned 5 false → whole x a ≡ carried p (p .n) a (write-plan (p .n) (memory-of p a) (p .c) v)
+      → x ≡ returned 5 false → whole x a ≡ carried p (p .n) a (write-begins (p .n) (memory-of p a) (p .c) v)
   still-writing fits phase-is busy answer =
-      rw (le-leb _ _ fits, eqb-other _ _ (λ idle. busy (phase-is ∙ idle))) (refuses p (p .n) a answer)
+      rw (le-leb _ _ fits, ne-eqb _ _ (λ idle. busy (phase-is ∙ idle))) (refuses p (p .n) a answer)
 
   pub no-more-writes : {phase ended : ℕ} → length v ≤ p .c → phase ≡ memory-of p a writer-phase
       → phase ≡ 0 → ended ≡ memory-of p a writes-ended → most-writes ≤ ended → x ≡ returned 7 false
-      → whole x a ≡ carried p (p .n) a (write-plan (p .n) (memory-of p a) (p .c) v)
+      → whole x a ≡ carried p (p .n) a (write-begins (p .n) (memory-of p a) (p .c) v)
   no-more-writes fits phase-is idle ended-is full answer =
-      rw (le-leb _ _ fits, eqb-equal _ _ (sym phase-is ∙ idle), ltb-beyond _ _ (rw ended-is at full))
+      rw (le-leb _ _ fits, eq-eqb _ _ (sym phase-is ∙ idle), le-ltb _ _ (rw ended-is at full))
       (refuses p (p .n) a answer)
 
   pub begun : {phase ended : ℕ} {b d : List ℕ} → length v ≤ p .c → phase ≡ memory-of p a writer-phase
       → phase ≡ 0 → ended ≡ memory-of p a writes-ended → ended < most-writes
-      → b ≡ after p a (copied write-record 0 v)
-      → d ≡ after p b (sets-out v)
-      → x ≡ returned 0 false → whole x d ≡ carried p (p .n) a (write-plan (p .n) (memory-of p a) (p .c) v)
+      → b ≡ words-after p a (copied write-record 0 v)
+      → d ≡ words-after p b (sets-out v)
+      → x ≡ returned 0 false → whole x d ≡ carried p (p .n) a (write-begins (p .n) (memory-of p a) (p .c) v)
   begun fits phase-is idle ended-is more first second answer =
-      rw (le-leb _ _ fits, eqb-equal _ _ (sym phase-is ∙ idle), ltb-below _ _ (rw ended-is at more))
+      rw (le-leb _ _ fits, eq-eqb _ _ (sym phase-is ∙ idle), lt-ltb _ _ (rw ended-is at more))
       (accepts p (p .n) a (begins-write v)
       (rw (second, first) (store-append (form1 (p .n) (p .c)) a (copied write-record 0 v) (sets-out v))) answer)

@@ -7,14 +7,14 @@ use Prim.Native.Nat.{ℕ, _+_, _*_, _/_, _%_, _≤_}
 use native.Mathlib.Numerals.{add-one}
 use native.Mathlib.Omega.{arith}
 use lib.Dec.{eqb}
+use borrow.Author.Tests.{eq-eqb, ne-eqb}
 use Rattle.register.specs.Place.{Memory, _≔_}
 use Rattle.register.specs.Area.{current, r-start, r-end, size, slot-write-number, contents}
 use Rattle.register.specs.Area.{writer-phase, last-slot, in-hand, writer-pos, writer-len, old-word}
 use Rattle.register.specs.Area.{writes-ended, write-record}
-use Rattle.register.specs.Steps.{Plan, refuse, accept, at-phase, writer-1, writer-step, free, picks, passes}
+use Rattle.register.specs.Steps.{Plan, refuse, accept, at-phase, looks, writer-step, free, picks, passes}
 use Rattle.register.specs.Steps.{fills, sizes, clears-start, clears-end, publishes, freezes}
 use Rattle.register.specs.Calls.{Answer}
-use Rattle.register.proofs.Tests.{eqb-equal, eqb-other}
 use Rattle.area.specs.declared.Layout.{Layout}
 use Rattle.answer.specs.declared.Answer.{Answer as Returned}
 use Rattle.answer.specs.Carried.{whole, carried}
@@ -27,33 +27,33 @@ module _ (p : Layout) (a : List ℕ) {hand : ℕ} (hand-is : hand ≡ memory-of 
   -- the last slot is not free
   pub last-taken : {last : ℕ} → last ≡ memory-of p a last-slot → hand ≡ last
       → false ≡ free (memory-of p a)
-  last-taken last-is same = rw (eqb-equal _ _ (sym hand-is ∙ same ∙ last-is))
+  last-taken last-is same = rw (eq-eqb _ _ (sym hand-is ∙ same ∙ last-is))
 
   -- another is where its counters are equal
   pub other-free : {last started gone : ℕ} → last ≡ memory-of p a last-slot
       → started ≡ memory-of p a (r-start hand) → gone ≡ memory-of p a (r-end hand) → hand ≢ last
       → eqb started gone ≡ free (memory-of p a)
   other-free last-is started-is gone-is other =
-      rw (eqb-other _ _ (λ same. other (hand-is ∙ same ∙ sym last-is)), started-is, gone-is, hand-is)
+      rw (ne-eqb _ _ (λ same. other (hand-is ∙ same ∙ sym last-is)), started-is, gone-is, hand-is)
 
   pub picked : {x : Returned} {is-free : Bool} {len phase : ℕ} {b : List ℕ} → len ≡ memory-of p a writer-len
       → is-free ≡ free (memory-of p a) → is-free ≡ true → phase ≡ cond (eqb len 0) 3 2
       → b ≡ stored p a (writer-phase ≔ phase) → x ≡ returned 0 false
-      → whole x b ≡ carried p (p .n) a (writer-1 (p .n) (memory-of p a))
+      → whole x b ≡ carried p (p .n) a (looks (p .n) (memory-of p a))
   picked len-is free-is found phase-is first answer =
       rw (sym free-is ∙ found) (accepts p (p .n) a (picks (memory-of p a)) (rw (first, phase-is, len-is)) answer)
 
   pub none-free : {x : Returned} {is-free : Bool} → is-free ≡ free (memory-of p a) → is-free ≡ false
       → hand ≡ p .n + 1 → x ≡ returned 8 false
-      → whole x a ≡ carried p (p .n) a (writer-1 (p .n) (memory-of p a))
+      → whole x a ≡ carried p (p .n) a (looks (p .n) (memory-of p a))
   none-free free-is taken end answer =
-      rw (sym free-is ∙ taken, eqb-equal _ _ (sym hand-is ∙ end ∙ add-one (p .n))) (refuses p (p .n) a answer)
+      rw (sym free-is ∙ taken, eq-eqb _ _ (sym hand-is ∙ end ∙ add-one (p .n))) (refuses p (p .n) a answer)
 
   pub passed-by : {x : Returned} {is-free : Bool} {b : List ℕ} → is-free ≡ free (memory-of p a)
       → is-free ≡ false → hand ≢ p .n + 1 → b ≡ stored p a (in-hand ≔ (hand + 1))
-      → x ≡ returned 0 false → whole x b ≡ carried p (p .n) a (writer-1 (p .n) (memory-of p a))
+      → x ≡ returned 0 false → whole x b ≡ carried p (p .n) a (looks (p .n) (memory-of p a))
   passed-by free-is taken more first answer =
-      rw (sym free-is ∙ taken, eqb-other _ _ (λ end. more (hand-is ∙ end ∙ sym (add-one (p .n)))))
+      rw (sym free-is ∙ taken, ne-eqb _ _ (λ end. more (hand-is ∙ end ∙ sym (add-one (p .n)))))
       (accepts p (p .n) a (passes (memory-of p a)) (rw (first, add-one, hand-is)) answer)
 
   -- ---- steps 2 to 7
@@ -107,7 +107,7 @@ module _ (p : Layout) (a : List ℕ) {hand : ℕ} (hand-is : hand ≡ memory-of 
 abbrev pub writer-plans : ℕ → Memory → List Plan
 writer-plans n m =
     refuse 6
-    ∷ writer-1 n m
+    ∷ looks n m
     ∷ accept (fills m) false
     ∷ accept (sizes m) false
     ∷ accept (clears-start m) false

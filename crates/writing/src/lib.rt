@@ -12,9 +12,9 @@ ghost use lib.ListN.{length};
 ghost use Rattle.register.specs.Place.{copied};
 ghost use Rattle.register.specs.Area.{writer-phase, write-record};
 ghost use Rattle.register.specs.Steps.{accept, free, fills, sizes, clears-start, clears-end, publishes, freezes};
-ghost use Rattle.register.specs.Steps.{writer-1, writer-step, write-plan};
-ghost use Rattle.register.proofs.Moves.{sets-out};
-ghost use Rattle.area.specs.Words.{Sized, memory-of, after};
+ghost use Rattle.register.specs.Steps.{looks, writer-step, write-begins};
+ghost use Rattle.register.specs.Steps.{sets-out};
+ghost use Rattle.area.specs.Words.{Sized, memory-of, words-after};
 ghost use Rattle.answer.specs.Carried.{whole, Ready, carried};
 
 // The phase of a copy: 3 where it is done, else 2.
@@ -40,11 +40,11 @@ fn is_free(area: &[u64], p: Layout) -> bool
 }
 
 // Step 1 (W1): a free slot in hand is picked, another is passed; there is none past the last.
-fn scans(area: &mut [u64], p: Layout) -> Answer
+fn looks(area: &mut [u64], p: Layout) -> Answer
     requires { ⌜ Ready p (now area) ⌝ }
     ensures { λ x.
         ⌜ whole x (now (area .exit))
-        ≡ carried p (p .n) (now (area .entry)) (writer-1 (p .n) (memory-of p (now (area .entry)))) ⌝ }
+        ≡ carried p (p .n) (now (area .entry)) (looks (p .n) (memory-of p (now (area .entry)))) ⌝ }
 {
     let hand = fields::writer_field(area, p, Layout::IN_HAND);
     let len = fields::writer_field(area, p, Layout::WRITER_LEN);
@@ -165,7 +165,7 @@ pub fn writer_step(area: &mut [u64], p: Layout) -> Answer
     let phase = fields::writer_field(area, p, Layout::WRITER_PHASE);
     match phase {
         0 => answer::refusal(6),
-        1 => scans(area, p),
+        1 => looks(area, p),
         2 => fills(area, p),
         3 => sizes(area, p),
         4 => clears_start(area, p),
@@ -181,7 +181,7 @@ fn copies_in(area: &mut [u64], p: Layout, words: &[u64])
     requires { ⌜ Sized p (now area) × (length (now words) ≤ p .c) ⌝ }
     ensures { λ _.
         ⌜ now (area .exit)
-        ≡ after p (now (area .entry)) (copied write-record 0 (now (words .entry))) ⌝ }
+        ≡ words-after p (now (area .entry)) (copied write-record 0 (now (words .entry))) ⌝ }
 {
     let mut i = 0;
     while i < words.len() {
@@ -194,7 +194,7 @@ fn copies_in(area: &mut [u64], p: Layout, words: &[u64])
 fn sets_out(area: &mut [u64], p: Layout, words: &[u64])
     requires { ⌜ Sized p (now area) ⌝ }
     ensures { λ _.
-        ⌜ now (area .exit) ≡ after p (now (area .entry)) (sets-out (now (words .entry))) ⌝ }
+        ⌜ now (area .exit) ≡ words-after p (now (area .entry)) (sets-out (now (words .entry))) ⌝ }
 {
     stores::set_writer_field(area, p, Layout::WRITER_LEN, words.len() as u64);
     stores::set_writer_field(area, p, Layout::IN_HAND, 0);
@@ -208,7 +208,7 @@ pub fn write_begins(area: &mut [u64], p: Layout, words: &[u64]) -> Answer
     ensures { λ x.
         ⌜ whole x (now (area .exit))
         ≡ carried p (p .n) (now (area .entry))
-        (write-plan (p .n) (memory-of p (now (area .entry))) (p .c) (now (words .entry))) ⌝ }
+        (write-begins (p .n) (memory-of p (now (area .entry))) (p .c) (now (words .entry))) ⌝ }
 {
     let capacity = p.c;
     let phase = fields::writer_field(area, p, Layout::WRITER_PHASE);

@@ -1,4 +1,4 @@
--- `all` ends: at most so many turns as there are cases. Assumes nothing.
+-- `all` ends: at most so many sets-phase as there are cases. Assumes nothing.
 use borrow.Author.Needs.{needs}
 use Prim.Native.Nat.{_≤_, _-_}
 use Rattle.cases.proofs.all.Statement.{statement}

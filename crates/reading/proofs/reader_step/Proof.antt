@@ -12,8 +12,8 @@ desk-field-requires c κs = search needs
 refusal-requires : tie.Need-refusal-requires
 refusal-requires c κs = search needs
 
-looks-requires : tie.Need-looks-requires
-looks-requires c κs = search needs
+compares-requires : tie.Need-compares-requires
+compares-requires c κs = search needs
 
 unbinds-requires : tie.Need-unbinds-requires
 unbinds-requires c κs = search needs
@@ -80,7 +80,7 @@ reader-step-spec =
     (tie.spec
     desk-field-requires
     refusal-requires
-    looks-requires
+    compares-requires
     unbinds-requires
     binds-requires
     takes-requires

@@ -2,7 +2,7 @@
 use borrow.Author.Needs.{needs}
 use mathlib.Core.Path.{_≡_}
 use Rattle.register.specs.Steps.{takes}
-use Rattle.area.specs.Words.{memory-of, after}
+use Rattle.area.specs.Words.{memory-of, words-after}
 use Rattle.reading.proofs.Reading.{bound-slot, taken, took-none, took-some}
 use Rattle.reading.proofs.takes.Statement.{statement}
 use Rattle.reading.proofs.takes.Tie as tie
@@ -15,7 +15,7 @@ start c =
 
 stored : (c : tie.After-set-desk-field3)
     → c .set-desk-field3 .last .0
-    ≡ after (start c .args .p) (start c .args .area .now)
+    ≡ words-after (start c .args .p) (start c .args .area .now)
     (takes (memory-of (start c .args .p) (start c .args .area .now)) (start c .args .r))
 stored c = search taken
 

@@ -12,8 +12,8 @@ writer-field-requires c κs = search needs
 refusal-requires : tie.Need-refusal-requires
 refusal-requires c κs = search needs
 
-scans-requires : tie.Need-scans-requires
-scans-requires c κs = search needs
+looks-requires : tie.Need-looks-requires
+looks-requires c κs = search needs
 
 fills-requires : tie.Need-fills-requires
 fills-requires c κs = search needs
@@ -57,7 +57,7 @@ returns-2 c =
     let read = way .before in
     let start = read .before .before .before in
     in-phase (start .args .p) (start .args .area .now) 1 (read .writer-field .ensures) (way .match .keys2)
-    (step .scans .ensures)
+    (step .looks .ensures)
 
 same-length-3 : tie.Need-same-length-3
 same-length-3 c = search needs
@@ -148,7 +148,7 @@ writer-step-spec =
     (tie.spec
     writer-field-requires
     refusal-requires
-    scans-requires
+    looks-requires
     fills-requires
     sizes-requires
     clears-start-requires

@@ -1,8 +1,8 @@
--- `writer::scans` meets its contract: each way through it is a plan of step 1. Assumes nothing.
+-- `writer::looks` meets its contract: each way through it is a plan of step 1. Assumes nothing.
 use borrow.Author.Needs.{needs}
 use Rattle.writing.proofs.WriterSteps.{picked, none-free, passed-by}
-use Rattle.writing.proofs.scans.Statement.{statement}
-use Rattle.writing.proofs.scans.Tie as tie
+use Rattle.writing.proofs.looks.Statement.{statement}
+use Rattle.writing.proofs.looks.Tie as tie
 
 writer-field-requires : tie.Need-writer-field-requires
 writer-field-requires c κs = search needs
@@ -80,8 +80,8 @@ returns-3 c =
     passed-by (start .args .p) (start .args .area .now) (hand .writer-field .ensures) (test .is-free .ensures)
     (taken .if1 .left) (more .if2 .left) (first .set-writer-field2 .ensures) (c .accepted2 .ensures)
 
-pub scans-spec : {M : Type 1} → statement M
-scans-spec =
+pub looks-spec : {M : Type 1} → statement M
+looks-spec =
     tie.close
     (tie.spec
     writer-field-requires

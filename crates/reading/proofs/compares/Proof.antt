@@ -1,9 +1,9 @@
--- `reader::looks` meets its contract: each way to the new phase has its law. Assumes nothing.
+-- `reader::compares` meets its contract: each way to the new phase has its law. Assumes nothing.
 use borrow.Author.Needs.{needs}
 use mathlib.Core.Logic.{⊎-elim}
 use Rattle.reading.proofs.Reading.{stays, leaves}
-use Rattle.reading.proofs.looks.Statement.{statement}
-use Rattle.reading.proofs.looks.Tie as tie
+use Rattle.reading.proofs.compares.Statement.{statement}
+use Rattle.reading.proofs.compares.Tie as tie
 
 current-word-requires : tie.Need-current-word-requires
 current-word-requires c κs = search needs
@@ -25,8 +25,8 @@ returns c =
     ⊎-elim (λ w. search (needs, stays)) (λ w. search (needs, leaves))
     (c .before .before .before .before .before .if1 .came)
 
-pub looks-spec : {M : Type 1} → statement M
-looks-spec =
+pub compares-spec : {M : Type 1} → statement M
+compares-spec =
     tie.close
     (tie.spec
     current-word-requires
