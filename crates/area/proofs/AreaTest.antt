@@ -9,7 +9,8 @@ use lib.ListN.{length, getD}
 use Rattle.register.specs.Table.{total}
 use Rattle.register.specs.Area.{form1, in-range, readers, capacity, is-area, all, memory-tests, undamaged}
 use Rattle.register.proofs.Tests.{true-passes}
-use Rattle.register.proofs.Called.{InRange, range-facts, area-facts}
+use Rattle.register.specs.Conditions.{InRange}
+use Rattle.register.proofs.Called.{range-facts, area-facts}
 use Rattle.area.specs.declared.Layout.{Layout}
 use Rattle.area.specs.Words.{layout-of, Sized, memory-of}
 use Rattle.area.proofs.Sizes.{laid-of}

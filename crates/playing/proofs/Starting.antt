@@ -8,7 +8,7 @@ use lib.ListN.{length, take, replicate}
 use Rattle.register.specs.Table.{total}
 use Rattle.register.specs.Area.{form1}
 use Rattle.register.specs.Calls.{Answer, refused, made}
-use Rattle.register.proofs.Called.{InRange}
+use Rattle.register.specs.Conditions.{InRange}
 use Rattle.register.proofs.Made.{made-well, makes}
 use Rattle.answer.specs.Carried.{whole}
 use Rattle.answer.specs.declared.Answer.{Answer as Returned}

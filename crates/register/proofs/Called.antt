@@ -4,7 +4,7 @@ use mathlib.Core.Path.{_≡_, refl, sym, ap, subst, subst₂, _∙_}
 use mathlib.Core.Logic.{_≢_}
 use mathlib.Core.Bool.{Bool, true, false, cond}
 use mathlib.Core.List.{List}
-use Prim.Native.Nat.{ℕ, _≤_, _<_}
+use Prim.Native.Nat.{ℕ, _<_}
 use native.Mathlib.Omega.{arith}
 use lib.Dec.{T, eqb→eq, leb→le, lit<}
 use lib.ListN.{length, getD}
@@ -13,6 +13,7 @@ use Rattle.register.specs.Table.{total, view, store}
 use Rattle.register.specs.Area.{form1, range-tests, in-range, readers, capacity, table, area-tests, is-area}
 use Rattle.register.specs.Area.{memory, undamaged}
 use Rattle.register.specs.Area.{all, memory-tests}
+use Rattle.register.specs.Conditions.{InRange}
 use Rattle.register.specs.Steps.{Plan, refuse, accept, Move, mover, plan}
 use Rattle.register.specs.Calls.{Answer, refused, carried-out, answered}
 use Rattle.register.specs.Demands.{Each, none, also, Refused}
@@ -26,12 +27,6 @@ use Rattle.register.proofs.Stays.{stays-whole}
 use Rattle.register.proofs.Planned.{Outcome, seen, plan-does}
 
 -- ---- test 1 as facts
-
-pub record InRange (n c : ℕ) : Type 0 where
-  pub some-readers : 1 ≤ n
-  pub few-readers : n ≤ 64
-  pub some-words : 1 ≤ c
-  pub few-words : c ≤ 256
 
 pub range-facts : (n c : ℕ) → T (in-range n c) → InRange n c
 range-facts n c t = go (each-passes (range-tests n c) t)

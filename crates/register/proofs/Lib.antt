@@ -25,6 +25,7 @@ pub mod Clean
 pub mod Form1
 pub mod Planned
 pub mod Going
+pub mod Rows
 pub mod Called
 pub mod Observed
 pub mod Others
@@ -34,4 +35,6 @@ pub mod Made
 pub mod Promise
 pub mod Ending
 pub mod Complete
+pub mod Facts
+pub mod Numbers
 pub mod InputA

@@ -16,7 +16,8 @@ use Rattle.register.specs.Area.{form1, range-tests, in-range, known-form
 use Rattle.register.specs.Calls.{Answer, refused, fresh, made}
 use Rattle.register.specs.Demands.{none, also, Refused, Makes}
 use Rattle.register.proofs.Tests.{passed, true-passes, both, all-pass, if-true}
-use Rattle.register.proofs.Called.{InRange, range-facts, refused-is, sound-area}
+use Rattle.register.specs.Conditions.{InRange}
+use Rattle.register.proofs.Called.{range-facts, refused-is, sound-area}
 use Rattle.register.proofs.Making.{first-memory, fresh-view, fresh-readers, fresh-capacity, fresh-area}
 use Rattle.register.proofs.Making.{first-whole}
 

@@ -31,7 +31,7 @@ use Rattle.register.proofs.StepCounts.{at-rest, no-steps}
 use Rattle.register.proofs.Bounds.{Bounded}
 use Rattle.register.proofs.Dates.{Dated, all-ended}
 use Rattle.register.proofs.Clean.{Clean}
-use Rattle.register.proofs.Called.{InRange}
+use Rattle.register.specs.Conditions.{InRange}
 
 -- all words 0
 zeros : (k j : ℕ) → getD {A = ℕ} (replicate k 0) j 0 ≡ 0

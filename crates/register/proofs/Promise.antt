@@ -28,7 +28,8 @@ use Rattle.register.proofs.Told.{Told}
 use Rattle.register.proofs.Telling.{tells}
 use Rattle.register.proofs.Bounds.{ReadExact, Bounded, keeps-bounds}
 use Rattle.register.proofs.Dates.{Dated, keeps-dates}
-use Rattle.register.proofs.Called.{InRange, Opened, opened, does}
+use Rattle.register.specs.Conditions.{InRange}
+use Rattle.register.proofs.Called.{Opened, opened, does}
 use Rattle.register.proofs.Called.{after-head, after-area, after-memory, after-sound}
 use Rattle.register.proofs.Observed.{observed}
 use Rattle.register.proofs.Made.{made-well, fresh-memory, fresh-sound}

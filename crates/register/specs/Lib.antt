@@ -5,6 +5,7 @@ pub mod Area
 pub mod Conditions
 pub mod Steps
 pub mod Calls
+pub mod Numbers
 pub mod History
 pub mod Line
 pub mod Demands
