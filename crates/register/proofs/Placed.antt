@@ -8,10 +8,12 @@ use native.Mathlib.Nat.{le-refl, le-suc, le-trans}
 use native.Mathlib.Omega.{arith}
 use lib.Dec.{eqb}
 use lib.ListN.{length}
+use borrow.Author.Tests.{eq-eqb, ne-eqb}
 use Rattle.register.specs.Place.{Record}
 use Rattle.register.specs.History.{Deed, read-began, write-began, went-on, looked, published}
 use Rattle.register.specs.History.{read-ended, write-ended, Read, Write, History}
 use Rattle.register.specs.History.{changed-at, closed, the-write, noted, nothing-yet}
+use Rattle.register.specs.Demands.{numbered}
 
 -- ---- placed, apart and sound; lists of reads and of writes are newest first
 
@@ -106,6 +108,18 @@ newest-where first begin end v n writes no-writes e q =
     record { back = 0; placed = at-start e; number = omega arith }
 newest-where first begin end v n writes (one-write a b c rest) e q =
     record { back = 0; placed = at-newest c e; number = omega arith }
+
+-- a read shows the record of the write that has its number
+placed-numbered : {first : Record} {begin end back : ℕ} {v : Record} {writes : List Write} (n : ℕ)
+    → Placed first begin end v back writes → back + n ≡ length writes → v ≡ numbered first writes n
+placed-numbered n (at-start e) q = e
+placed-numbered n (at-newest {writes = writes} p e) q = rw (eq-eqb n (suc (length writes)) (omega arith)) e
+placed-numbered n (further-back {writes = writes} p rest) q =
+    rw (ne-eqb n (suc (length writes)) (λ z. omega arith)) (placed-numbered n rest (omega arith))
+
+pub where-numbered : {first : Record} {begin end n : ℕ} {v : Record} {writes : List Write}
+    → Where first begin end v n writes → v ≡ numbered first writes n
+where-numbered {n = n} a = placed-numbered n (a .placed) (a .number)
 
 -- ---- all writes and all reads, while the run goes on
 
