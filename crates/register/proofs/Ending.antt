@@ -15,7 +15,7 @@ use Rattle.register.specs.Steps
 use Rattle.register.specs.Steps.{Plan, refuse, accept, read-begins, write-begins, Move, read, write, step, mover}
 use Rattle.register.specs.Calls.{carried-out, answered}
 use Rattle.register.specs.History.{History}
-use Rattle.register.specs.Demands.{told, NeverStuck, numbered, Ends}
+use Rattle.register.specs.Demands.{told, NeverStuck, record-of, Ends}
 use Rattle.register.proofs.Places.{row, row-length}
 use Rattle.register.proofs.Placed.{Where, where-numbered}
 use Rattle.register.proofs.Held.{scan-within}
@@ -72,12 +72,12 @@ module _ {n c : ℕ} {first : Record} {all-moves : ℕ} {a : List ℕ} {h : Hist
   its-number r l e = omega (arith, g .told .reader r l .copied e .1, bound-where r l e .number)
 
   its-length : (r : ℕ) → r < n → memory a (phase r) ≡ 5
-      → memory a (len r) ≡ length (numbered first (h .writes) (memory a (desk-write-number r)))
+      → memory a (len r) ≡ length (record-of first (h .writes) (memory a (desk-write-number r)))
   its-length r l e =
       let (len-is, number-is, part, copied) = g .told .reader r l .copied e in
       len-is ∙ sym (row-length (memory a (size (memory a (last r)))) (λ j. memory a (contents (memory a (last r)) j)))
       ∙ ap length (where-numbered (bound-where r l e))
-      ∙ ap (λ k. length (numbered first (h .writes) k)) (sym number-is)
+      ∙ ap (λ k. length (record-of first (h .writes) k)) (sym number-is)
 
   reading-on : (r : ℕ) → r < n → memory a (phase r) ≡ 5 → h .steps r < memory a (len r) + 4
   reading-on r l e = omega (arith, few-late (g .bounded .reader r l) e, g .told .reader r l .copied e .2)

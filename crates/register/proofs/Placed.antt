@@ -13,7 +13,7 @@ use Rattle.register.specs.Place.{Record}
 use Rattle.register.specs.History.{Deed, read-began, write-began, went-on, looked, published}
 use Rattle.register.specs.History.{read-ended, write-ended, Read, Write, History}
 use Rattle.register.specs.History.{changed-at, closed, the-write, noted, nothing-yet}
-use Rattle.register.specs.Demands.{numbered}
+use Rattle.register.specs.Demands.{record-of}
 
 -- ---- placed, apart and sound; lists of reads and of writes are newest first
 
@@ -111,14 +111,14 @@ newest-where first begin end v n writes (one-write a b c rest) e q =
 
 -- a read shows the record of the write that has its number
 placed-numbered : {first : Record} {begin end back : ℕ} {v : Record} {writes : List Write} (n : ℕ)
-    → Placed first begin end v back writes → back + n ≡ length writes → v ≡ numbered first writes n
+    → Placed first begin end v back writes → back + n ≡ length writes → v ≡ record-of first writes n
 placed-numbered n (at-start e) q = e
 placed-numbered n (at-newest {writes = writes} p e) q = rw (eq-eqb n (suc (length writes)) (omega arith)) e
 placed-numbered n (further-back {writes = writes} p rest) q =
     rw (ne-eqb n (suc (length writes)) (λ z. omega arith)) (placed-numbered n rest (omega arith))
 
 pub where-numbered : {first : Record} {begin end n : ℕ} {v : Record} {writes : List Write}
-    → Where first begin end v n writes → v ≡ numbered first writes n
+    → Where first begin end v n writes → v ≡ record-of first writes n
 where-numbered {n = n} a = placed-numbered n (a .placed) (a .number)
 
 -- ---- all writes and all reads, while the run goes on

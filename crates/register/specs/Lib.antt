@@ -8,3 +8,4 @@ pub mod Calls
 pub mod History
 pub mod Line
 pub mod Demands
+pub mod Complete
