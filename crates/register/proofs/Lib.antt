@@ -1,6 +1,7 @@
 -- The proofs, from the ground up. Assumes nothing.
 pub mod SmallRuns
 pub mod Shortcuts
+pub mod Begins
 pub mod Tests
 pub mod Sums
 pub mod Places
