@@ -18,7 +18,7 @@ use Rattle.register.specs.Calls.{Answer, refused, carried-out, answered}
 use Rattle.register.specs.Demands.{Each, none, also, Refused}
 use Rattle.register.proofs.Tests.{passed, true-passes, each-passes, if-true}
 use Rattle.register.proofs.Tables.{view-store, length-store, store-untouched}
-use Rattle.register.proofs.Form1.{AllOwn, all-has, head-untouched}
+use Rattle.register.proofs.Form1.{AllInBody, all-has, head-untouched}
 use Rattle.register.proofs.Moves.{Does, by}
 use Rattle.register.specs.Conditions.{Whole}
 use Rattle.register.proofs.Whole.{whole-of, of-whole}
@@ -165,7 +165,7 @@ module _ {a : List ℕ} {x : Move} (o : Opened a x) where
   -- the plan's stores, and the move that they are
   pub does : Does n c (memory a) (by (mover n x) (seen n (memory a) x (o .ends) (apply (memory a) (o .stores))))
       (apply (memory a) (o .stores))
-      × AllOwn n c (o .stores)
+      × AllInBody n c (o .stores)
   does =
       subst (Outcome n c (memory a) (mover n x) (seen n (memory a) x)) (o .chosen)
       (plan-does n c (memory a) (whole-area a (o .sound)) x)

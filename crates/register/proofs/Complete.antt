@@ -1,7 +1,7 @@
 -- The history leaves nothing out and makes nothing up: each accepted move tells of itself what the history notes of
 -- it. Assumes nothing.
-use mathlib.Core.Path.{_≡_, refl, sym, ap, subst, _∙_}
-use mathlib.Core.Bool.{Bool, true, false, cond}
+use mathlib.Core.Path.{_≡_, refl, sym, ap, _∙_}
+use mathlib.Core.Bool.{false, cond}
 use mathlib.Core.List.{List, [], _∷_, map}
 use Prim.Native.Nat.{ℕ, suc, _+_, _≤_, _<_}
 use native.Mathlib.Decide.{ℕ-discrete}
@@ -9,127 +9,24 @@ use native.Mathlib.Omega.{arith}
 use lib.Dec.{eqb}
 use lib.ListN.{length}
 use borrow.Author.Tests.{eq-eqb, ne-eqb, lt-ltb, le-ltb}
-use Rattle.register.specs.Place.{Record, Memory, apply}
-use Rattle.register.specs.Area.{phase, writer-phase, readers, capacity, memory}
-use Rattle.register.specs.Steps.{refuse, Move, read, write, step}
+use Rattle.register.specs.Place.{Record}
+use Rattle.register.specs.Area.{writer-phase, readers, memory}
+use Rattle.register.specs.Steps.{Move, step}
 use Rattle.register.specs.Calls.{answered, stepped}
-use Rattle.register.specs.History.{Deed, read-began, write-began, went-on, looked, published, read-ended}
-use Rattle.register.specs.History.{write-ended, got, reader-deed, writer-deed, Accepted, none, then}
-use Rattle.register.specs.History.{Event, event, events, Read, Write, History, closed, changed-at, stepped-on}
-use Rattle.register.specs.History.{the-read, the-write}
-use Rattle.register.specs.History.{noted, all-noted, nothing-yet}
+use Rattle.register.specs.History.{Accepted, none, then, got, Event, event, events, Read, Write, History}
+use Rattle.register.specs.History.{closed, changed-at, stepped-on, the-read, the-write, noted, all-noted}
+use Rattle.register.specs.History.{nothing-yet}
 use Rattle.register.specs.Demands.{Each, also, beginning, told}
 use Rattle.register.specs.Complete.{Moment, trail, moves-of, steps, ends-read, leaves-phase, ends-write}
 use Rattle.register.specs.Complete.{begun-at, since, handed, told-of, read-told, publication-told}
 use Rattle.register.specs.Complete.{End, end-told, publication-of, end-of, ended-only, LeavesNothingOut}
-use Rattle.register.proofs.Tests.{if-less, if-equal, if-true, each-follows}
-use Rattle.register.proofs.Moves.{Does, by}
+use Rattle.register.proofs.Tests.{each-follows}
 use Rattle.register.proofs.Dates.{Ends, all-ended, one-open}
-use Rattle.register.proofs.Going.{number-of}
-use Rattle.register.proofs.Called.{its-plan, InRange, Opened, opened, does}
-use Rattle.register.proofs.Observed.{Says, says, observed}
+use Rattle.register.proofs.Called.{InRange, opened}
+use Rattle.register.proofs.Moments.{Tells, tells, a-read-begin, a-write-begin, another-step, a-look}
+use Rattle.register.proofs.Moments.{a-publication, a-read-end, a-write-end}
 use Rattle.register.proofs.Made.{made-well}
 use Rattle.register.proofs.Promise.{Good, moves-all-noted, next-good, run-begins-good, run-ends-good}
-
--- ---- what a move tells of itself
-
-module _ (a : List ℕ) where
-  -- the tests of a step of process p
-  record Tested (p : ℕ) (reads looks publishes ends : Bool) : Type 0 where
-    reads-end : ends-read a (step p) ≡ reads
-    looking : leaves-phase 1 a (step p) ≡ looks
-    publishing : leaves-phase 6 a (step p) ≡ publishes
-    writes-end : ends-write a (step p) ≡ ends
-
-  -- an accepted move, and the event that the history sees
-  data Tells : Move → Event → Type 0 where
-    a-read-begin : (r : ℕ) → r < readers a → Tells (read r) (by r read-began)
-    a-write-begin : (v : Record) → Tells (write v) (by (readers a) (write-began v))
-    another-step : (p k : ℕ) → Tested p false false false false → Tells (step p) (by p (went-on k))
-    a-look : (p : ℕ) → p ≡ readers a → Tested p false true false false → Tells (step p) (by p looked)
-    a-publication : (p : ℕ) → p ≡ readers a → Tested p false false true false → Tells (step p) (by p (published false))
-    a-read-end : (p : ℕ) → Tested p true false false false
-        → Tells (step p) (by p (read-ended (got p (stepped a p))))
-    a-write-end : (p : ℕ) → p ≡ readers a → memory a writer-phase ≡ 7 → Tested p false false false true
-        → Tells (step p) (by p write-ended)
-
-  -- an accepted step is a reader's or the writer's
-  reader-or-writer : (p : ℕ) → Opened a (step p) → readers a ≤ p → p ≡ readers a
-  reader-or-writer p o l = go (ℕ-discrete p (readers a))
-    where
-      go : Dec (p ≡ readers a) → p ≡ readers a
-      go (yes e) = e
-      go (no d) =
-          let k : _≡_ {A = ℕ} 3 0 = ap number-of (sym refused ∙ o .chosen) in
-          absurd (omega arith)
-        where
-          refused : its-plan a (step p) ≡ refuse 3
-          refused = rw (le-ltb p (readers a) l, ne-eqb p (readers a) d)
-
-  abbrev its-phase : ℕ
-  its-phase = memory a writer-phase
-
-  module _ (p : ℕ) where
-    -- a step of a reader
-    by-reader : p < readers a → Tells (step p) (by p (reader-deed p (memory a (phase p)) (stepped a p)))
-    by-reader l = go (stepped a p .ended) refl
-      where
-        not-writer : eqb p (readers a) ≡ false
-        not-writer = ne-eqb p (readers a) (λ e. omega arith)
-
-        tested : (e : Bool) → stepped a p .ended ≡ e → Tested p e false false false
-        tested e same =
-            record {
-              reads-end = rw (lt-ltb p (readers a) l) same;
-              looking = rw not-writer;
-              publishing = rw not-writer;
-              writes-end = rw not-writer;
-            }
-
-        go : (e : Bool) → stepped a p .ended ≡ e
-            → Tells (step p) (by p (cond e (read-ended (got p (stepped a p))) (went-on (memory a (phase p)))))
-        go true e = a-read-end p (tested true e)
-        go false e = another-step p (memory a (phase p)) (tested false e)
-
-    -- a step of the writer, of which the relation of moves says what it says
-    abbrev Told : Memory → Deed → Type 0
-    Told m′ d = Says (readers a) p d (memory a) m′ → Tells (step p) (by p d)
-
-    by-writer : (m′ : Memory) → p ≡ readers a → Told m′ (writer-deed its-phase (stepped a p))
-    by-writer m′ w =
-        if-equal (Told m′) its-phase 6 _ _
-        (λ s quiet.
-        subst (λ b. Tells (step p) (by p (published b))) (sym quiet)
-        (a-publication p w (tested false true false (ne-eqb its-phase 1 (λ z. omega arith)) (eq-eqb its-phase 6 s) quiet)))
-        (λ s.
-        if-true (Told m′) (stepped a p .ended) write-ended _
-        (λ e last. a-write-end p w last (tested false false true (ne-eqb its-phase 1 (λ z. omega arith)) (ne-eqb its-phase 6 s) e))
-        (λ e.
-        if-equal (Told m′) its-phase 1 looked (went-on its-phase)
-        (λ t x. a-look p w (tested true false false (eq-eqb its-phase 1 t) (ne-eqb its-phase 6 s) e))
-        (λ t x. another-step p its-phase (tested false false false (ne-eqb its-phase 1 t) (ne-eqb its-phase 6 s) e))))
-      where
-        tested : (l s e : Bool) → eqb its-phase 1 ≡ l → eqb its-phase 6 ≡ s → stepped a p .ended ≡ e
-            → Tested p false l s e
-        tested l s e el es ee =
-            record {
-              reads-end = rw (le-ltb p (readers a) (omega arith));
-              looking = rw (eq-eqb p (readers a) w) el;
-              publishing = rw (eq-eqb p (readers a) w) es;
-              writes-end = rw (eq-eqb p (readers a) w) ee;
-            }
-
-  tells : (x : Move) → Opened a x → Tells x (event a x)
-  tells (read r) o = a-read-begin r (says (does o .0))
-  tells (write v) o = a-write-begin v
-  tells (step p) o =
-      if-less (Told p m′) p (readers a) (reader-deed p (memory a (phase p)) (stepped a p))
-      (writer-deed its-phase (stepped a p)) (λ l said. by-reader p l)
-      (λ l. by-writer p m′ (reader-or-writer p o l))
-      (says (subst (λ e. Does (readers a) (capacity a) (memory a) e m′) (sym (observed a (step p) o)) (does o .0)))
-    where
-      m′ : Memory
-      m′ = apply (memory a) (o .stores)
 
 -- ---- the end of a write
 
@@ -267,7 +164,8 @@ module _ (n all-moves : ℕ) where
         }
     recalled same l still (a-write-end p w last t) =
         step-recalled p (h .looks) (h .reads) (closed (h .moves) (suc (h .steps p)) (h .writes)) (rw (t .looking))
-        (rw (t .reads-end)) (rw (t .publishing) (closed-published (h .moves) (suc (h .steps p)) (h .writes) ∙ v .published-ones))
+        (rw (t .reads-end))
+        (rw (t .publishing) (closed-published (h .moves) (suc (h .steps p)) (h .writes) ∙ v .published-ones))
         (rw (t .writes-end) (closed-ended l last still ∙ (λ i. its-end i ∷ v .ended-ones i)))
       where
         its-end : _≡_ {A = End} (record { move = h .moves; steps = suc (h .steps p) }) (end-told a (step p) past)

@@ -21,7 +21,7 @@ use Rattle.register.proofs.Tests.{passed, true-passes, all-pass, eqb-sa
 use Rattle.register.specs.Demands.{none, also}
 use Rattle.register.proofs.Places.{row-same}
 use Rattle.register.proofs.Tables.{view-here, words-row}
-use Rattle.register.proofs.Form1.{own-read-record}
+use Rattle.register.proofs.Form1.{body-read-record}
 use Rattle.register.proofs.Moves
 use Rattle.register.proofs.Moves.{Does, by, desk-record}
 use Rattle.register.proofs.Planned.{seen, seen-got, seen-reader, seen-writer}
@@ -75,8 +75,8 @@ shows-desk a r e l k =
     word : (j : ℕ) → j < memory a (len r) → getD a (start + j) 0 ≡ memory a (read-record r j)
     word j h =
         let here : start + j ≡ address (table a) (read-record r j) = omega arith in
-        let own = own-read-record (readers a) (capacity a) r j l (omega (arith, h, k)) in
-        ap (λ i. getD a i 0) here ∙ sym (view-here (table a) a (read-record r j) (own .has))
+        let there = body-read-record (readers a) (capacity a) r j l (omega (arith, h, k)) in
+        ap (λ i. getD a i 0) here ∙ sym (view-here (table a) a (read-record r j) (there .has))
 
 -- ---- a step of reader p that ended its read
 
