@@ -1,5 +1,7 @@
 -- The history leaves nothing out and makes nothing up: each accepted move tells of itself what the history notes of
--- it. Assumes nothing.
+-- it.
+--     leaves-nothing-out                  the theorem
+-- Assumes nothing.
 use mathlib.Core.Path.{_≡_, refl, sym, ap, _∙_}
 use mathlib.Core.Bool.{false, cond}
 use mathlib.Core.List.{List, [], _∷_, map}

@@ -1,4 +1,8 @@
 -- A fresh area: it is an area, it is undamaged, and everything that a run keeps holds at its beginning.
+--     first-memory, at-desk               the fresh memory; desks are 0
+--     fresh-length, fresh-view, fresh-readers, fresh-capacity, fresh-area   the words of a fresh area
+--     first-whole                         it is undamaged
+--     first-counted, first-told, first-bounded, first-dated, first-clean   what a run keeps
 -- Assumes nothing.
 use mathlib.Core.Path.{_≡_, refl, sym, ap, _∙_, fun-ext}
 use mathlib.Core.Logic.{_≢_}

@@ -1,4 +1,9 @@
--- What the history sees of an accepted call is what the call did. Assumes nothing.
+-- What the history sees of an accepted call is what the call did.
+--     Says, says                          what each deed says of the memories before and after
+--     shows-desk                          the record that showing gives is the one in the desk
+--     same-ended                          a step answers "ended" where its plan ends
+--     observed                            the event of an accepted call is that of its move
+-- Assumes nothing.
 use mathlib.Core.Path.{_≡_, refl, sym, ap, subst, _∙_}
 use mathlib.Core.Bool.{Bool, true, false, cond, _&&_}
 use mathlib.Core.List.{List, []}

@@ -1,5 +1,16 @@
 -- Where a read is placed among the writes, when a history is sound, and that each move of a run keeps it sound.
--- All this holds of any register. Assumes nothing.
+-- All this holds of any register.
+--     Placed, Where                       a read some writes back; a read at the write of its number
+--     Apart, AllPlaced, Sound             writes in order; reads in order, each placed; a history of such
+--     newest                              the record of the newest write
+--     later, where-later                  a read that ends later is placed where it was
+--     where-published, where-closed       a publication puts it one further back, the end of a write does not
+--     newest-where                        a read of the newest record is placed no write back
+--     where-numbered                      a placed read shows the record of the write that has its number
+--     length-closed, newest-closed, apart-later   writes that end, and time that goes on
+--     sound-at-first, Needs, sound-noted  a history is sound at first, and after one more move that has what it needs
+--     began-noted                         no operation began later than now
+-- Assumes nothing.
 use mathlib.Core.Path.{_≡_, refl, sym, _∙_}
 use mathlib.Core.Bool.{Bool, true, false, cond}
 use mathlib.Core.List.{List, [], _∷_}

@@ -1,4 +1,7 @@
 -- An accepted plan is a move of the relation, it stores to places of the area alone, and no refusal has number 0.
+--     seen-got, seen-writer, seen-reader, seen-step, seen   what is seen of a move, from the memories before and after
+--     Outcome                             what a plan comes to: a move of the relation, or a refusal
+--     plan-does                           every plan on an undamaged memory
 -- Assumes nothing.
 use mathlib.Core.Path.{_≡_, refl, sym, ap, subst, _∙_, fun-ext}
 use mathlib.Core.Logic.{_≢_}
