@@ -9,8 +9,8 @@ use Rattle.register.specs.Table.{Table, address, view, store}
 use Rattle.register.specs.Area.{form1, current, slot-field, contents, desk-field, read-record}
 use Rattle.register.specs.Area.{writer-field, write-record}
 use Rattle.register.proofs.Tables.{Has, view-here}
-use Rattle.register.proofs.Form1.{own-current, own-slot, own-contents, own-desk, own-read-record}
-use Rattle.register.proofs.Form1.{own-writer, own-write-record}
+use Rattle.register.proofs.Form1.{body-current, body-slot, body-contents, body-desk, body-read-record}
+use Rattle.register.proofs.Form1.{body-writer, body-write-record}
 use Rattle.area.specs.Words.{word-at, slot-word, desk-word, own-word}
 
 -- ---- any place of any table
@@ -33,35 +33,35 @@ set-is t a p v e = ap (λ j. set a j v) e
 -- ---- the places of form 1 by their names: the word read at i, where `Layout` says that it stands
 
 pub current-is : (n c : ℕ) (a : List ℕ) → getD a 7 0 ≡ view (form1 n c) a current
-current-is n c a = word-is (form1 n c) a current (own-current n c .has) refl
+current-is n c a = word-is (form1 n c) a current (body-current n c .has) refl
 
 module _ (n c : ℕ) (a : List ℕ) {i : ℕ} where
   pub slot-field-is : (f s : ℕ) → f < 4 → s < n + 2 → i ≡ slot-word n c s f
       → getD a i 0 ≡ view (form1 n c) a (slot-field f s)
   slot-field-is f s h k e =
-      word-is (form1 n c) a (slot-field f s) (own-slot n c f s h k .has) (e ∙ field-at (form1 n c) 1 f s)
+      word-is (form1 n c) a (slot-field f s) (body-slot n c f s h k .has) (e ∙ field-at (form1 n c) 1 f s)
 
   pub contents-is : (s j : ℕ) → s < n + 2 → j < c → i ≡ slot-word n c s (4 + j)
       → getD a i 0 ≡ view (form1 n c) a (contents s j)
-  contents-is s j h k = word-is (form1 n c) a (contents s j) (own-contents n c s j h k .has)
+  contents-is s j h k = word-is (form1 n c) a (contents s j) (body-contents n c s j h k .has)
 
   pub desk-field-is : (f r : ℕ) → f < 6 → r < n → i ≡ desk-word n c r f
       → getD a i 0 ≡ view (form1 n c) a (desk-field f r)
   desk-field-is f r h k e =
-      word-is (form1 n c) a (desk-field f r) (own-desk n c f r h k .has) (e ∙ field-at (form1 n c) 2 f r)
+      word-is (form1 n c) a (desk-field f r) (body-desk n c f r h k .has) (e ∙ field-at (form1 n c) 2 f r)
 
   pub read-record-is : (r j : ℕ) → r < n → j < c → i ≡ desk-word n c r (6 + j)
       → getD a i 0 ≡ view (form1 n c) a (read-record r j)
-  read-record-is r j h k = word-is (form1 n c) a (read-record r j) (own-read-record n c r j h k .has)
+  read-record-is r j h k = word-is (form1 n c) a (read-record r j) (body-read-record n c r j h k .has)
 
   pub writer-field-is : (f : ℕ) → f < 7 → i ≡ own-word n c f
       → getD a i 0 ≡ view (form1 n c) a (writer-field f)
   writer-field-is f h e =
-      word-is (form1 n c) a (writer-field f) (own-writer n c f h .has) (e ∙ field-at (form1 n c) 3 f 0)
+      word-is (form1 n c) a (writer-field f) (body-writer n c f h .has) (e ∙ field-at (form1 n c) 3 f 0)
 
   pub write-record-is : (j : ℕ) → j < c → i ≡ own-word n c (7 + j)
       → getD a i 0 ≡ view (form1 n c) a (write-record j)
-  write-record-is j h = word-is (form1 n c) a (write-record j) (own-write-record n c j h .has)
+  write-record-is j h = word-is (form1 n c) a (write-record j) (body-write-record n c j h .has)
 
 -- ---- the same places: a word set at i
 

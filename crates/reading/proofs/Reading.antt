@@ -17,7 +17,7 @@ use Rattle.register.specs.Steps.{read-begins, reader-1, reader-2, reader-3, rea
 use Rattle.register.specs.Calls.{age-of}
 use Rattle.register.specs.Demands.{none, also}
 use Rattle.register.proofs.Tables.{view-store}
-use Rattle.register.proofs.Form1.{own-desk}
+use Rattle.register.proofs.Form1.{body-desk}
 use Rattle.area.specs.Words.{Sized, memory-of, words-after}
 use Rattle.area.specs.declared.Layout.{Layout}
 use Rattle.answer.specs.declared.Answer.{Answer as Returned}
@@ -53,8 +53,8 @@ ended p r a s h e f g =
     kept : age-of later r ≡ age-of (memory-of p a) r
     kept = ap (λ m. age-of m r)
         (view-store (form1 (p .n) (p .c)) a (finishes r) (s .exact)
-        (also (own-desk (p .n) (p .c) 5 r (omega arith) h .has)
-        (also (own-desk (p .n) (p .c) 0 r (omega arith) h .has) none)))
+        (also (body-desk (p .n) (p .c) 5 r (omega arith) h .has)
+        (also (body-desk (p .n) (p .c) 0 r (omega arith) h .has) none)))
 
     same : cond (ltb r (p .n)) (age-of later r) 0 ≡ age-of (memory-of p a) r
     same = ap (λ q. cond q (age-of later r) 0) (lt-ltb r (p .n) h) ∙ kept

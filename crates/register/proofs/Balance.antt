@@ -1,11 +1,14 @@
 -- The counts of a register with readers' counters, over bare numbers: what each kind of step does to them.
--- Assumes nothing.
---
+--     Stage, Settled, Balance             what the writer is at; slots whose counts agree; both, with the current slot
+--     one-leaves, one-joins               reader steps 2 and 3
+--     write-begins                        the writer begins, and some slot is free
+--     hand-free, hand-held                writer step 1: the slot in hand is free, or it is not and is not the last
+--     hand-filled                         writer steps 2 to 5
+--     hand-published, old-frozen          writer steps 6 and 7
 -- n readers; `here` and `counted` are the index and the counter of the current word, `old` and `frozen` those of the
--- old word;
--- `started` and `gone` are r_start and r_end of each slot, `bound` is how many readers are bound to it; the writer is
--- in phase
--- `phase` with last slot `last` and slot in hand `hand`.
+-- old word; `started` and `gone` are r_start and r_end of each slot, `bound` is how many readers are bound to it; the
+-- writer is in phase `phase` with last slot `last` and slot in hand `hand`.
+-- Assumes nothing.
 use mathlib.Core.Path.{_≡_, refl, sym, ap, _∙_}
 use mathlib.Core.Logic.{_≢_}
 use Prim.Native.Nat.{ℕ, suc, _+_, _≤_, _<_}

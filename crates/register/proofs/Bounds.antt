@@ -1,4 +1,8 @@
--- Own steps and looks: no operation takes more than its bound, whether it has ended or is under way. Assumes nothing.
+-- Own steps and looks: no operation takes more than its bound, whether it has ended or is under way.
+--     ReadExact, WriteSteps               the steps of a finished read, of a published write
+--     ReaderAt, WriterAt                  the steps of a reader and of the writer under way
+--     Bounded, keeps-bounds               all of these, and that every accepted move keeps them
+-- Assumes nothing.
 use mathlib.Core.Path.{_≡_}
 use mathlib.Core.Logic.{_⊎_, inl, inr}
 use mathlib.Core.Bool.{false}

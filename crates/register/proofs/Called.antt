@@ -1,5 +1,14 @@
 -- A call on any list of words: a refusal changes nothing; an accepted call was made on an undamaged area, carries its
--- plan out and leaves an undamaged area with the same head. Assumes nothing.
+-- plan out and leaves an undamaged area with the same head.
+--     InRange, range-facts, AreaFacts, area-facts, same-area   test 1 as facts
+--     its-plan                            the plan of a call
+--     refused-is, refused-keeps           a refusal
+--     Opened, opened                      what an accepted call was made of
+--     whole-area, sound-area              test 2 as facts, and the other way
+--     does                                the move of the relation that an accepted call is
+--     after-is, after-length, after-head, after-area, after-table, after-view, after-memory, after-exact,
+--     after-whole, after-sound            the area that it leaves
+-- Assumes nothing.
 use mathlib.Core.Path.{_≡_, refl, sym, ap, subst, subst₂, _∙_}
 use mathlib.Core.Logic.{_≢_}
 use mathlib.Core.Bool.{Bool, true, false, cond}
@@ -19,7 +28,7 @@ use Rattle.register.specs.Calls.{Answer, refused, carried-out, answered}
 use Rattle.register.specs.Demands.{Each, none, also, Refused}
 use Rattle.register.proofs.Tests.{passed, true-passes, each-passes, if-true}
 use Rattle.register.proofs.Tables.{view-store, length-store, store-untouched}
-use Rattle.register.proofs.Form1.{AllOwn, all-has, head-untouched}
+use Rattle.register.proofs.Form1.{AllInBody, all-has, head-untouched}
 use Rattle.register.proofs.Moves.{Does, by}
 use Rattle.register.specs.Conditions.{Whole}
 use Rattle.register.proofs.Whole.{whole-of, of-whole}
@@ -160,7 +169,7 @@ module _ {a : List ℕ} {x : Move} (o : Opened a x) where
   -- the plan's stores, and the move that they are
   pub does : Does n c (memory a) (by (mover n x) (seen n (memory a) x (o .ends) (apply (memory a) (o .stores))))
       (apply (memory a) (o .stores))
-      × AllOwn n c (o .stores)
+      × AllInBody n c (o .stores)
   does =
       subst (Outcome n c (memory a) (mover n x) (seen n (memory a) x)) (o .chosen)
       (plan-does n c (memory a) (whole-area a (o .sound)) x)

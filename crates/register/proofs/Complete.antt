@@ -1,266 +1,209 @@
--- The history leaves nothing out: it has as many reads, publications and ended writes as the answers tell.
+-- The history leaves nothing out and makes nothing up: each accepted move tells of itself what the history notes of
+-- it.
+--     leaves-nothing-out                  the theorem
 -- Assumes nothing.
-use mathlib.Core.Path.{_≡_, refl, sym, ap, subst, _∙_}
-use mathlib.Core.Bool.{Bool, true, false, cond}
-use mathlib.Core.List.{List, [], _∷_}
+use mathlib.Core.Path.{_≡_, refl, sym, ap, _∙_}
+use mathlib.Core.Bool.{false, cond}
+use mathlib.Core.List.{List, [], _∷_, map}
 use Prim.Native.Nat.{ℕ, suc, _+_, _≤_, _<_}
 use native.Mathlib.Decide.{ℕ-discrete}
 use native.Mathlib.Omega.{arith}
 use lib.Dec.{eqb}
 use lib.ListN.{length}
 use borrow.Author.Tests.{eq-eqb, ne-eqb, lt-ltb, le-ltb}
-use Rattle.register.specs.Place.{Memory, apply}
-use Rattle.register.specs.Area.{phase, writer-phase, writes-ended, readers, capacity, memory}
-use Rattle.register.specs.Steps.{refuse, Move, read, write, step}
+use Rattle.register.specs.Place.{Record}
+use Rattle.register.specs.Area.{writer-phase, readers, memory}
+use Rattle.register.specs.Steps.{Move, step}
 use Rattle.register.specs.Calls.{answered, stepped}
-use Rattle.register.specs.History.{Deed, read-began, write-began, went-on, looked, published, read-ended}
-use Rattle.register.specs.History.{write-ended}
-use Rattle.register.specs.History.{got, reader-deed, writer-deed, after, Accepted, none, then}
-use Rattle.register.specs.History.{Event, event, events, History, noted, all-noted, nothing-yet}
-use Rattle.register.specs.Demands.{ended-before, how-many, ends-read, publication, ends-write, beginning}
-use Rattle.register.specs.Demands.{now, told, Complete, LeavesNothingOut}
-use Rattle.register.proofs.Tests.{if-less}
-use Rattle.register.proofs.Placed.{length-closed}
-use Rattle.register.proofs.Moves
-use Rattle.register.proofs.Moves.{Does}
-use Rattle.register.proofs.Dates.{ended-now}
-use Rattle.register.proofs.Going.{number-of}
-use Rattle.register.proofs.Called.{its-plan, Opened, opened, does, after-memory}
-use Rattle.register.proofs.Observed.{observed}
-use Rattle.register.proofs.Promise.{Good, moves-all-noted, run-begins-good, run-ends-good}
+use Rattle.register.specs.History.{Accepted, none, then, got, Event, event, events, Read, Write, History}
+use Rattle.register.specs.History.{closed, changed-at, stepped-on, the-read, the-write, noted, all-noted}
+use Rattle.register.specs.History.{nothing-yet}
+use Rattle.register.specs.Demands.{Each, also, beginning, told}
+use Rattle.register.specs.Complete.{Moment, trail, moves-of, steps, ends-read, leaves-phase, ends-write}
+use Rattle.register.specs.Complete.{begun-at, since, handed, told-of, read-told, publication-told}
+use Rattle.register.specs.Complete.{End, end-told, publication-of, end-of, ended-only, LeavesNothingOut}
+use Rattle.register.proofs.Tests.{each-follows}
+use Rattle.register.proofs.Dates.{Ends, all-ended, one-open}
+use Rattle.register.specs.Conditions.{InRange}
+use Rattle.register.proofs.Called.{opened}
+use Rattle.register.proofs.Moments.{Tells, tells, a-read-begin, a-write-begin, another-step, a-look}
+use Rattle.register.proofs.Moments.{a-publication, a-read-end, a-write-end}
+use Rattle.register.proofs.Made.{made-well}
+use Rattle.register.proofs.Promise.{Good, moves-all-noted, next-good, run-begins-good, run-ends-good}
 
--- ---- what a deed adds
+-- ---- the end of a write
 
-abbrev reads-of : Deed → ℕ
-reads-of read-began = 0
-reads-of (write-began v) = 0
-reads-of (went-on k) = 0
-reads-of looked = 0
-reads-of (published ended) = 0
-reads-of (read-ended g) = 1
-reads-of write-ended = 0
+closed-published : (t k : ℕ) (writes : List Write)
+    → map publication-of (closed t k writes) ≡ map publication-of writes
+closed-published t k [] = refl
+closed-published t k (w ∷ writes) = refl
 
-abbrev publications-of : Deed → ℕ
-publications-of read-began = 0
-publications-of (write-began v) = 0
-publications-of (went-on k) = 0
-publications-of looked = 0
-publications-of (published ended) = 1
-publications-of (read-ended g) = 0
-publications-of write-ended = 0
+-- in phase 7 the newest write has not ended yet
+closed-ended : {all-moves now phase k : ℕ} {writes : List Write} → now < all-moves → phase ≡ 7
+    → Ends all-moves now phase writes
+    → map end-of (ended-only all-moves (closed now k writes))
+    ≡ record { move = now; steps = k } ∷ map end-of (ended-only all-moves writes)
+closed-ended l e (all-ended d past) = absurd (d e)
+closed-ended {all-moves = all-moves} {now = now} l e (one-open {w = w} e′ still past) =
+    rw (lt-ltb now all-moves l, le-ltb (w .end) all-moves (omega arith))
 
-abbrev ends-of : Deed → ℕ
-ends-of read-began = 0
-ends-of (write-began v) = 0
-ends-of (went-on k) = 0
-ends-of looked = 0
-ends-of (published ended) = cond ended 1 0
-ends-of (read-ended g) = 0
-ends-of write-ended = 1
+ends-by : {now phase : ℕ} {writes : List Write} (all-moves : ℕ) → now ≡ all-moves → Ends all-moves now phase writes
+    → Each (λ w. w .end ≤ all-moves) writes
+ends-by all-moves e (all-ended d past) = each-follows (λ w b. omega arith) past
+ends-by all-moves e (one-open {w = w} e′ still past) =
+    also {x = w} (omega arith) (each-follows (λ w b. omega arith) past)
 
-reads-noted : (t : ℕ) (h : History) (p : ℕ) (d : Deed)
-    → length (noted t h p d .reads) ≡ reads-of d + length (h .reads)
-reads-noted t h p read-began = omega arith
-reads-noted t h p (write-began v) = omega arith
-reads-noted t h p (went-on k) = omega arith
-reads-noted t h p looked = omega arith
-reads-noted t h p (published ended) = omega arith
-reads-noted t h p (read-ended g) = omega arith
-reads-noted t h p write-ended = omega arith
+-- ---- what the history knows is what the moves tell
 
-writes-noted : (t : ℕ) (h : History) (p : ℕ) (d : Deed) → length (noted t h p d .writes)
-    ≡ publications-of d + length (h .writes)
-writes-noted t h p read-began = omega arith
-writes-noted t h p (write-began v) = omega arith
-writes-noted t h p (went-on k) = omega arith
-writes-noted t h p looked = omega arith
-writes-noted t h p (published ended) = omega arith
-writes-noted t h p (read-ended g) = omega arith
-writes-noted t h p write-ended = omega (arith, length-closed (h .moves) (suc (h .steps p)) (h .writes))
+module _ (n all-moves : ℕ) where
+  record Recalls (past : List Moment) (h : History) : Type 0 where
+    moves : h .moves ≡ length past
+    began : (q : ℕ) → h .began q ≡ begun-at q past
+    steps-made : (q : ℕ) → h .steps q ≡ since q (steps q) past
+    looks-made : h .looks ≡ since n (leaves-phase 1) past
+    given : h .given ≡ handed past
+    reads : h .reads ≡ told-of ends-read read-told past
+    published-ones : map publication-of (h .writes) ≡ told-of (leaves-phase 6) publication-told past
+    ended-ones : map end-of (ended-only all-moves (h .writes)) ≡ told-of ends-write end-told past
 
--- ---- what a move tells of itself
+  nothing-recalled : Recalls [] nothing-yet
+  nothing-recalled =
+      record {
+        moves = refl;
+        began = λ q. refl;
+        steps-made = λ q. refl;
+        looks-made = refl;
+        given = refl;
+        reads = refl;
+        published-ones = refl;
+        ended-ones = refl;
+      }
 
-module _ (a : List ℕ) where
-  -- an accepted step is a reader's or the writer's
-  reader-or-writer : (p : ℕ) → Opened a (step p) → readers a ≤ p → p ≡ readers a
-  reader-or-writer p o l = go (ℕ-discrete p (readers a))
-    where
-      go : Dec (p ≡ readers a) → p ≡ readers a
-      go (yes e) = e
-      go (no d) =
-          let k : _≡_ {A = ℕ} 3 0 = ap number-of (sym refused ∙ o .chosen) in
-          absurd (omega arith)
+  module _ {past : List Moment} {h : History} (v : Recalls past h) (a : List ℕ) where
+    abbrev now-made : Move → List Moment
+    now-made x = record { area = a; move = x } ∷ past
+
+    -- a step of process p, as the history notes every one
+    module _ (p : ℕ) where
+      steps-noted : (q : ℕ) → changed-at (h .steps) p (suc (h .steps p)) q
+          ≡ cond (eqb q p) (suc (since q (steps q) past)) (since q (steps q) past)
+      steps-noted q = go (ℕ-discrete q p)
         where
-          refused : its-plan a (step p) ≡ refuse 3
-          refused = rw (le-ltb p (readers a) l, ne-eqb p (readers a) d)
+          go : Dec (q ≡ p) → changed-at (h .steps) p (suc (h .steps p)) q
+              ≡ cond (eqb q p) (suc (since q (steps q) past)) (since q (steps q) past)
+          go (yes e) = rw (eq-eqb q p e) (ap suc (ap (h .steps) (sym e) ∙ v .steps-made q))
+          go (no d) = rw (ne-eqb q p d) (v .steps-made q)
 
-  abbrev its-phase : ℕ
-  its-phase = memory a writer-phase
+      step-recalled : (looks : ℕ) (reads : List Read) (writes : List Write)
+          → looks ≡ cond (leaves-phase 1 a (step p)) (suc (h .looks)) (h .looks)
+          → reads ≡ cond (ends-read a (step p)) (read-told a (step p) past ∷ h .reads) (h .reads)
+          → map publication-of writes ≡ told-of (leaves-phase 6) publication-told (now-made (step p))
+          → map end-of (ended-only all-moves writes) ≡ told-of ends-write end-told (now-made (step p))
+          → Recalls (now-made (step p)) (stepped-on all-moves h p looks reads writes)
+      step-recalled looks reads writes el er ep ee =
+          record {
+            moves = ap suc (v .moves);
+            began = v .began;
+            steps-made = steps-noted;
+            looks-made = el ∙ (λ i. cond (leaves-phase 1 a (step p)) (suc (v .looks-made i)) (v .looks-made i));
+            given = v .given;
+            reads = er ∙ (λ i. cond (ends-read a (step p)) (read-told a (step p) past ∷ v .reads i) (v .reads i));
+            published-ones = ep;
+            ended-ones = ee;
+          }
 
-  -- a test of a step, by a reader and by the writer
-  by-process : (f : Deed → ℕ) (p j w : ℕ) (test : Bool) → Opened a (step p)
-      → f (reader-deed p (memory a (phase p)) (stepped a p)) ≡ j
-      → f (writer-deed its-phase (stepped a p)) ≡ w
-      → (p < readers a → cond test 1 0 ≡ j) → (p ≡ readers a → cond test 1 0 ≡ w)
-      → f (event a (step p) .what) ≡ cond test 1 0
-  by-process f p j w test o reader writer at-reader at-writer =
-      if-less (λ d. f d ≡ cond test 1 0) p (readers a) (reader-deed p (memory a (phase p)) (stepped a p))
-      (writer-deed its-phase (stepped a p)) (λ l. reader ∙ sym (at-reader l))
-      (λ l. writer ∙ sym (at-writer (reader-or-writer p o l)))
+    recalled : {x : Move} {e : Event} → readers a ≡ n → h .moves < all-moves
+        → Ends all-moves (h .moves) (memory a writer-phase) (h .writes) → Tells a x e
+        → Recalls (now-made x) (noted all-moves h (e .who) (e .what))
+    recalled same l still (a-read-begin r in-n) =
+        record {
+          moves = ap suc (v .moves);
+          began = λ q i. cond (eqb q r) (v .moves i) (v .began q i);
+          steps-made = λ q i. cond (eqb q r) 0 (v .steps-made q i);
+          looks-made = rw (ne-eqb n r (λ z. omega arith)) (v .looks-made);
+          given = v .given;
+          reads = v .reads;
+          published-ones = v .published-ones;
+          ended-ones = v .ended-ones;
+        }
+    recalled same l still (a-write-begin u) =
+        record {
+          moves = ap suc (v .moves);
+          began = λ q i. cond (eqb q (readers a)) (v .moves i) (v .began q i);
+          steps-made = λ q i. cond (eqb q (readers a)) 0 (v .steps-made q i);
+          looks-made = rw (eq-eqb n (readers a) (sym same));
+          given = refl;
+          reads = v .reads;
+          published-ones = v .published-ones;
+          ended-ones = v .ended-ones;
+        }
+    recalled same l still (another-step p k t) =
+        step-recalled p (h .looks) (h .reads) (h .writes) (rw (t .looking)) (rw (t .reads-end))
+        (rw (t .publishing) (v .published-ones)) (rw (t .writes-end) (v .ended-ones))
+    recalled same l still (a-look p w t) =
+        step-recalled p (suc (h .looks)) (h .reads) (h .writes) (rw (t .looking)) (rw (t .reads-end))
+        (rw (t .publishing) (v .published-ones)) (rw (t .writes-end) (v .ended-ones))
+    recalled same l still (a-publication p w t) =
+        step-recalled p (h .looks) (h .reads) (the-write all-moves h p false ∷ h .writes) (rw (t .looking))
+        (rw (t .reads-end)) (rw (t .publishing) (λ i. its-publication i ∷ v .published-ones i))
+        (rw (t .writes-end, le-ltb all-moves all-moves (omega arith)) (v .ended-ones))
+      where
+        its-publication : publication-of (the-write all-moves h p false) ≡ publication-told a (step p) past
+        its-publication =
+            (λ i. record { begin = v .began p i; move = v .moves i; looks = v .looks-made i; gives = v .given i })
+            ∙ rw (w, same)
+    recalled same l still (a-read-end p t) =
+        step-recalled p (h .looks) (the-read all-moves h p (got p (stepped a p)) ∷ h .reads) (h .writes)
+        (rw (t .looking)) (rw (t .reads-end) (λ i. its-read i ∷ h .reads))
+        (rw (t .publishing) (v .published-ones)) (rw (t .writes-end) (v .ended-ones))
+      where
+        its-read : the-read all-moves h p (got p (stepped a p)) ≡ read-told a (step p) past
+        its-read = λ i. record {
+          reader = p;
+          begin = v .began p i;
+          end = v .moves i;
+          steps = suc (v .steps-made p i);
+          gets = got p (stepped a p);
+        }
+    recalled same l still (a-write-end p w last t) =
+        step-recalled p (h .looks) (h .reads) (closed (h .moves) (suc (h .steps p)) (h .writes)) (rw (t .looking))
+        (rw (t .reads-end))
+        (rw (t .publishing) (closed-published (h .moves) (suc (h .steps p)) (h .writes) ∙ v .published-ones))
+        (rw (t .writes-end) (closed-ended l last still ∙ (λ i. its-end i ∷ v .ended-ones i)))
+      where
+        its-end : _≡_ {A = End} (record { move = h .moves; steps = suc (h .steps p) }) (end-told a (step p) past)
+        its-end = (λ i. record { move = v .moves i; steps = suc (v .steps-made p i) }) ∙ rw w
 
-  told-reads : (x : Move) → Opened a x → reads-of (event a x .what) ≡ cond (ends-read a x) 1 0
-  told-reads (read r) o = refl
-  told-reads (write v) o = refl
-  told-reads (step p) o =
-      by-process reads-of p (cond (stepped a p .ended) 1 0) 0 (ends-read a (step p)) o (reader (stepped a p .ended))
-      (writer (eqb its-phase 6) (stepped a p .ended) (eqb its-phase 1)) (λ l. rw (lt-ltb p (readers a) l))
-      (λ e. rw (le-ltb p (readers a) (omega arith)))
-    where
-      reader : (e : Bool) → reads-of (cond e (read-ended (got p (stepped a p))) (went-on (memory a (phase p))))
-          ≡ cond e 1 0
-      reader true = refl
-      reader false = refl
-
-      writer : (s e t : Bool)
-          → reads-of (cond s (published e) (cond e write-ended (cond t looked (went-on its-phase)))) ≡ 0
-      writer true e t = refl
-      writer false true t = refl
-      writer false false true = refl
-      writer false false false = refl
-
-  told-publications : (x : Move) → Opened a x → publications-of (event a x .what) ≡ cond (publication a x) 1 0
-  told-publications (read r) o = refl
-  told-publications (write v) o = refl
-  told-publications (step p) o =
-      by-process publications-of p 0 (cond (eqb its-phase 6) 1 0) (publication a (step p)) o
-      (reader (stepped a p .ended))
-      (writer (eqb its-phase 6) (stepped a p .ended) (eqb its-phase 1))
-      (λ l. rw (ne-eqb p (readers a) (λ e. omega arith)))
-      (λ e. rw (eq-eqb p (readers a) e))
-    where
-      reader : (e : Bool) → publications-of (cond e (read-ended (got p (stepped a p))) (went-on (memory a (phase p))))
-          ≡ 0
-      reader true = refl
-      reader false = refl
-
-      writer : (s e t : Bool)
-          → publications-of (cond s (published e) (cond e write-ended (cond t looked (went-on its-phase))))
-          ≡ cond s 1 0
-      writer true e t = refl
-      writer false true t = refl
-      writer false false true = refl
-      writer false false false = refl
-
-  told-ends : (x : Move) → Opened a x → ends-of (event a x .what) ≡ cond (ends-write a x) 1 0
-  told-ends (read r) o = refl
-  told-ends (write v) o = refl
-  told-ends (step p) o =
-      by-process ends-of p 0 (cond (stepped a p .ended) 1 0) (ends-write a (step p)) o (reader (stepped a p .ended))
-      (writer (eqb its-phase 6) (stepped a p .ended) (eqb its-phase 1))
-      (λ l. rw (ne-eqb p (readers a) (λ e. omega arith)))
-      (λ e. rw (eq-eqb p (readers a) e))
-    where
-      reader : (e : Bool) → ends-of (cond e (read-ended (got p (stepped a p))) (went-on (memory a (phase p)))) ≡ 0
-      reader true = refl
-      reader false = refl
-
-      writer : (s e t : Bool)
-          → ends-of (cond s (published e) (cond e write-ended (cond t looked (went-on its-phase)))) ≡ cond e 1 0
-      writer true e t = refl
-      writer false true t = refl
-      writer false false true = refl
-      writer false false false = refl
-
--- ---- writes ended, as the writer's desk counts them
-
-ended-moved : {n c : ℕ} {m m′ : Memory} {e : Event} → Does n c m e m′ → m′ writes-ended
-    ≡ ends-of (e .what) + m writes-ended
-ended-moved (Moves.read-starts r l e) = omega arith
-ended-moved (Moves.finds-same r l e x) = omega arith
-ended-moved (Moves.finds-other r l e x) = omega arith
-ended-moved (Moves.leaves-slot r l e x) = omega arith
-ended-moved (Moves.joins-slot r l e x) = omega arith
-ended-moved (Moves.takes-none r l e x) = omega arith
-ended-moved (Moves.takes-size r l e x) = omega arith
-ended-moved (Moves.copies-word r l e x) = omega arith
-ended-moved (Moves.copies-last r l e x) = omega arith
-ended-moved (Moves.write-starts u l e more) = omega arith
-ended-moved (Moves.picks-empty e d x y) = omega arith
-ended-moved (Moves.picks-slot e d x y) = omega arith
-ended-moved (Moves.passes-slot e d x) = omega arith
-ended-moved (Moves.fills-word e x) = omega arith
-ended-moved (Moves.fills-last e x) = omega arith
-ended-moved (Moves.sets-size e) = omega arith
-ended-moved (Moves.clears-first e) = omega arith
-ended-moved (Moves.clears-second e) = omega arith
-ended-moved (Moves.exchanges e) = omega arith
-ended-moved (Moves.write-ends e) = omega arith
-
--- ---- over a whole run
-
-module _ (t : ℕ) where
-  reads-counted : (a : List ℕ) (l : List Move) (h : History) → Accepted a l
-      → length (all-noted t h (events a l) .reads) ≡ how-many ends-read a l + length (h .reads)
-  reads-counted a [] h none = omega arith
-  reads-counted a (x ∷ l) h (then z rest) =
-      let h′ = noted t h (event a x .who) (event a x .what) in
-      let one = told-reads a x (opened a x z) in
-      omega (
-        arith,
-        reads-counted (answered a x .area) l h′ rest,
-        reads-noted t h (event a x .who)
-            (event a x .what),
-        one,
-      )
-
-  publications-counted : (a : List ℕ) (l : List Move) (h : History) → Accepted a l
-      → length (all-noted t h (events a l) .writes) ≡ how-many publication a l + length (h .writes)
-  publications-counted a [] h none = omega arith
-  publications-counted a (x ∷ l) h (then z rest) =
-      let h′ = noted t h (event a x .who) (event a x .what) in
-      let one = told-publications a x (opened a x z) in
-      omega (
-        arith,
-        publications-counted (answered a x .area) l h′ rest,
-        writes-noted t h (event a x .who) (event a x .what),
-        one,
-      )
-
-ends-counted : (a : List ℕ) (l : List Move) → Accepted a l
-    → memory (after a l) writes-ended ≡ how-many ends-write a l + memory a writes-ended
-ends-counted a [] none = omega arith
-ends-counted a (x ∷ l) (then z rest) =
-    let o = opened a x z in
-    let m′ : Memory = apply (memory a) (o .stores) in
-    let one : memory (answered a x .area) writes-ended ≡ ends-of (event a x .what) + memory a writes-ended =
-    ap (λ m. m writes-ended) (after-memory o)
-    ∙ ended-moved (subst (λ e. Does (readers a) (capacity a) (memory a) e m′) (sym (observed a x o))
-    (does o .0)) in
-    omega (arith, ends-counted (answered a x .area) l rest, one, told-ends a x o)
+  -- over a whole run
+  module _ (c : ℕ) (first : Record) (range : InRange n c) where
+    all-recalled : (a : List ℕ) (l : List Move) (past : List Moment) (h : History) → Accepted a l
+        → h .moves + length l ≡ all-moves → Good n c first all-moves a h → Recalls past h
+        → Recalls (trail past a l) (all-noted all-moves h (events a l))
+    all-recalled a [] past h none e g v = v
+    all-recalled a (x ∷ l) past h (then z rest) e g v =
+        let told-now = recalled v a (g .its-readers) (omega arith) (g .dated .ends) (tells a x (opened a x z)) in
+        all-recalled (answered a x .area) l (record { area = a; move = x } ∷ past)
+        (noted all-moves h (event a x .who) (event a x .what)) rest
+        (omega (arith, told-now .moves, v .moves))
+        (next-good n c first range g x z (omega arith)) told-now
 
 pub leaves-nothing-out : LeavesNothingOut
-leaves-nothing-out u = counted (run-ends-good u)
+leaves-nothing-out u =
+    record {
+      reads = whole .reads;
+      published = whole .published-ones;
+      ended = whole .ended-ones;
+      latest = latest (run-ends-good u .dated .ends);
+    }
   where
-    counted : Good (u .n) (u .c) (u .first) (length (u .moves)) (now u) (told u) → Complete u
-    counted g =
-        record {
-          reads = reads-counted t a (u .moves) nothing-yet (u .accepted) ∙ omega arith;
-          published = publications-counted t a (u .moves) nothing-yet (u .accepted) ∙ omega arith;
-          ended =
-              ap (λ k. ended-before k (told u .writes)) (sym every-move)
-              ∙ sym (ended-now (omega (arith, every-move)) (g .dated .ends) (g .told .writer))
-              ∙ ends-counted a (u .moves) (u .accepted)
-              ∙ omega (arith, none-yet);
-        }
-      where
-        t : ℕ
-        t = length (u .moves)
+    t : ℕ
+    t = length (u .moves)
 
-        a : List ℕ
-        a = beginning u
+    whole : Recalls (u .n) t (moves-of u) (told u)
+    whole =
+        let w = made-well (u .form) (u .n) (u .c) (u .first) (u .slice) (u .made-well) in
+        all-recalled (u .n) t (u .c) (u .first) (w .range) (beginning u) (u .moves) [] nothing-yet (u .accepted)
+        (omega arith) (run-begins-good u) (nothing-recalled (u .n) t)
 
-        every-move : told u .moves ≡ t
-        every-move = moves-all-noted t a (u .moves) nothing-yet ∙ omega arith
-
-        none-yet : memory a writes-ended ≡ 0
-        none-yet = let b = run-begins-good u in ended-now (omega arith) (b .dated .ends) (b .told .writer)
+    latest : {k : ℕ} → Ends t (told u .moves) k (told u .writes) → Each (λ w. w .end ≤ t) (told u .writes)
+    latest = ends-by t (omega (arith, moves-all-noted t (beginning u) (u .moves) nothing-yet))

@@ -1,7 +1,17 @@
 -- A reader copies a record out of a slot, the writer copies one in: what each has at each phase. It holds of any
--- register:
--- `sizing` is the phase of a reader's size step, behind which it copies; `told` is the phase of a writer that has
--- published.
+-- register: `sizing` is the phase of a reader's size step, behind which it copies; `told` is the phase of a writer that
+-- has published.
+--     Reading                             what a reader has of its slot
+--     reading-later, not-yet              time goes on; before the size step nothing is asked
+--     bound-to-newest                     a reader that binds the current slot
+--     copy-starts, no-words               the size step
+--     copy-goes-on, copy-ends             a copying step, the last one
+--     Writing                             what the writer has of its record and of the slot in hand
+--     nothing-written, write-begins       at first, and when a write begins
+--     slot-found, slot-passed             writer step 1
+--     fill-goes-on, fill-ends             writer step 2
+--     words-there                         from phase 3 on
+--     published-whole, publishes-it, ends-it   the record that is published is the one given; writer steps 6 and 7
 -- Assumes nothing.
 use mathlib.Core.Path.{_≡_, refl, ap, subst, _∙_}
 use mathlib.Core.Logic.{_≢_}

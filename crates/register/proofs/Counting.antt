@@ -1,4 +1,9 @@
--- How many readers are bound to each slot, and that every accepted move keeps the counts in balance. Assumes nothing.
+-- How many readers are bound to each slot, and that every accepted move keeps the counts in balance.
+--     is-bound, bound                     whether one reader is bound to a slot, how many are
+--     unbound, bound-here, bound-away, bound-at-most   one reader's share
+--     Counts, Counted                     the balance of a memory; the counting invariant
+--     keeps-counts                        every accepted move keeps it
+-- Assumes nothing.
 use mathlib.Core.Path.{_≡_, refl, sym, subst, subst₂, _∙_, fun-ext}
 use mathlib.Core.Logic.{_≢_}
 use mathlib.Core.Bool.{Bool, true, false, cond}

@@ -1,4 +1,9 @@
--- When writes ended, and the age of each finished read. Assumes nothing.
+-- When writes ended, and the age of each finished read.
+--     Ends                                all writes have ended, but the newest in phase 7
+--     Aged                                a finished read with its age as the history has it
+--     ended-now                           writes ended, as the writer's desk has it, is how many have
+--     Dated, keeps-dates                  both, and that every accepted move keeps them
+-- Assumes nothing.
 use mathlib.Core.Path.{_≡_, refl, sym, ap, _∙_}
 use mathlib.Core.Logic.{_≢_}
 use mathlib.Core.Bool.{true, false}

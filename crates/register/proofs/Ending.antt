@@ -1,22 +1,23 @@
 -- Every operation ends: on an area that a run left nobody busy is refused, and what is under way is within its bound.
 -- Assumes nothing.
-use mathlib.Core.Path.{_≡_, refl, ap, subst₂, _∙_}
+use mathlib.Core.Path.{_≡_, refl, sym, ap, subst, subst₂, _∙_}
 use mathlib.Core.Logic.{_≢_}
-use mathlib.Core.Bool.{true, cond}
+use mathlib.Core.Bool.{true}
 use mathlib.Core.List.{List}
 use Prim.Native.Nat.{ℕ, _+_, _≤_, _<_}
 use native.Mathlib.Decide.{ℕ-discrete}
 use native.Mathlib.Omega.{arith}
-use lib.Dec.{eqb}
-use borrow.Author.Tests.{eq-eqb, ne-eqb}
+use lib.ListN.{length}
 use Rattle.register.specs.Place.{Record}
-use Rattle.register.specs.Area.{phase, len, writer-phase, writer-len, readers, is-area, memory}
-use Rattle.register.specs.Area.{undamaged}
+use Rattle.register.specs.Area.{size, slot-write-number, contents, phase, last, len, desk-write-number}
+use Rattle.register.specs.Area.{writer-phase, writer-len, readers, is-area, memory, undamaged}
 use Rattle.register.specs.Steps
 use Rattle.register.specs.Steps.{Plan, refuse, accept, read-begins, write-begins, Move, read, write, step, mover}
 use Rattle.register.specs.Calls.{carried-out, answered}
 use Rattle.register.specs.History.{History}
-use Rattle.register.specs.Demands.{told, NeverStuck, Ends}
+use Rattle.register.specs.Demands.{told, NeverStuck, record-of, Ends}
+use Rattle.register.proofs.Places.{row, row-length}
+use Rattle.register.proofs.Placed.{Where, where-numbered}
 use Rattle.register.proofs.Held.{scan-within}
 use Rattle.register.proofs.Going.{number-of, read-begin-number, write-begin-number, step-number}
 use Rattle.register.proofs.StepCounts.{few-early, few-late}
@@ -56,16 +57,30 @@ module _ {n c : ℕ} {first : Record} {all-moves : ℕ} {a : List ℕ} {h : Hist
       }
 
   -- a read under way
-  reading-on : (r : ℕ) → r < n → memory a (phase r) ≢ 0
-      → h .steps r < cond (eqb (memory a (phase r)) 5) (memory a (len r)) c + 4
-  reading-on r l busy = go (ℕ-discrete (memory a (phase r)) 5)
-    where
-      go : Dec (memory a (phase r) ≡ 5) → h .steps r < cond (eqb (memory a (phase r)) 5) (memory a (len r)) c + 4
-      go (yes e) =
-          rw (eq-eqb _ _ e) (omega (arith, few-late (g .bounded .reader r l) e, g .told .reader r l .copied e .2))
-      go (no d) =
-          let few : memory a (phase r) ≤ 4 = omega (arith, whole .desk r l .phases) in
-          rw (ne-eqb _ _ d) (omega (arith, few-early (g .bounded .reader r l) busy few))
+  early-on : (r : ℕ) → r < n → memory a (phase r) ≢ 0 → memory a (phase r) ≢ 5 → h .steps r < 4
+  early-on r l busy d =
+      let few : memory a (phase r) ≤ 4 = omega (arith, whole .desk r l .phases) in
+      omega (arith, few-early (g .bounded .reader r l) busy few)
+
+  bound-where : (r : ℕ) → r < n → memory a (phase r) ≡ 5
+      → Where first (h .began r) (h .moves)
+      (row (memory a (size (memory a (last r)))) (λ j. memory a (contents (memory a (last r)) j)))
+      (memory a (slot-write-number (memory a (last r)))) (h .writes)
+  bound-where r l e = g .told .reader r l .bound (omega arith)
+
+  its-number : (r : ℕ) → r < n → memory a (phase r) ≡ 5 → memory a (desk-write-number r) ≤ length (h .writes)
+  its-number r l e = omega (arith, g .told .reader r l .copied e .1, bound-where r l e .number)
+
+  its-length : (r : ℕ) → r < n → memory a (phase r) ≡ 5
+      → memory a (len r) ≡ length (record-of first (h .writes) (memory a (desk-write-number r)))
+  its-length r l e =
+      let (len-is, number-is, part, copied) = g .told .reader r l .copied e in
+      len-is ∙ sym (row-length (memory a (size (memory a (last r)))) (λ j. memory a (contents (memory a (last r)) j)))
+      ∙ ap length (where-numbered (bound-where r l e))
+      ∙ ap (λ k. length (record-of first (h .writes) k)) (sym number-is)
+
+  reading-on : (r : ℕ) → r < n → memory a (phase r) ≡ 5 → h .steps r < memory a (len r) + 4
+  reading-on r l e = omega (arith, few-late (g .bounded .reader r l) e, g .told .reader r l .copied e .2)
 
   -- a write under way
   abbrev k : ℕ
@@ -78,8 +93,11 @@ module _ {n c : ℕ} {first : Record} {all-moves : ℕ} {a : List ℕ} {h : Hist
       go (yes e) = omega (arith, g .bounded .writer .scanned e, scan-within n (memory a) (g .counted) e)
       go (no d) = g .bounded .writer .few (omega arith)
 
-  writing-on : k ≢ 0 → h .steps n < n + memory a writer-len + 7
-  writing-on busy = go (ℕ-discrete k 1) (ℕ-discrete k 2) (ℕ-discrete k 7)
+  length-on : k ≢ 0 → memory a writer-len ≡ length (h .given)
+  length-on busy = g .told .writer .has (omega arith) .0
+
+  writing-on : k ≢ 0 → h .steps n < n + length (h .given) + 7
+  writing-on busy = subst (λ j. h .steps n < n + j + 7) (length-on busy) few-steps
     where
       go : Dec (k ≡ 1) → Dec (k ≡ 2) → Dec (k ≡ 7) → h .steps n < n + memory a writer-len + 7
       go (yes e) b d = omega (arith, g .bounded .writer .scanned e, scan-within n (memory a) (g .counted) e)
@@ -90,7 +108,20 @@ module _ {n c : ℕ} {first : Record} {all-moves : ℕ} {a : List ℕ} {h : Hist
           let hi : k ≤ 6 = omega (arith, whole .writer .phases) in
           omega (arith, g .bounded .writer .rest (omega arith) hi, g .bounded .writer .few (omega arith))
 
+      few-steps : h .steps n < n + memory a writer-len + 7
+      few-steps = go (ℕ-discrete k 1) (ℕ-discrete k 2) (ℕ-discrete k 7)
+
 pub it-ends : Ends
 it-ends u =
-    let g = run-ends-good u in
-    (goes g, record { reads = reading-on g; looks = looking-on g; writes = writing-on g })
+    let g = run-ends-good u in (
+      goes g,
+      record {
+        looks = looking-on g;
+        write-length = length-on g;
+        writes = writing-on g;
+        early-reads = early-on g;
+        read-number = its-number g;
+        read-length = its-length g;
+        reads = reading-on g;
+      },
+    )

@@ -1,4 +1,6 @@
--- What any call keeps, on any words: the theorem about accepted calls and refusals. Assumes nothing.
+-- What any call keeps, on any words: the theorem about accepted calls and refusals.
+--     keeps                               the theorem
+-- Assumes nothing.
 use mathlib.Core.Path.{_≡_, refl, sym, ap, subst, _∙_}
 use mathlib.Core.Logic.{_≢_}
 use mathlib.Core.Bool.{Bool, true, false, cond, not}

@@ -1,40 +1,42 @@
 -- The proofs, from the ground up. Assumes nothing.
-pub mod SmallRuns
-pub mod Shortcuts
+mod SmallRuns
+mod Shortcuts
+mod Begins
 pub mod Tests
 pub mod Sums
 pub mod Places
 pub mod Tables
-pub mod Balance
+mod Balance
 pub mod Moves
-pub mod Counting
-pub mod Held
-pub mod Whole
-pub mod WriterDesk
-pub mod Stays
-pub mod Placed
-pub mod Inserting
-pub mod Lining
-pub mod Copying
-pub mod Told
-pub mod Telling
-pub mod StepCounts
-pub mod Bounds
-pub mod Dates
-pub mod Clean
+mod Counting
+mod Held
+mod Whole
+mod WriterDesk
+mod Stays
+mod Placed
+mod Inserting
+mod Lining
+mod Copying
+mod Told
+mod Telling
+mod StepCounts
+mod Bounds
+mod Dates
+mod Clean
 pub mod Form1
-pub mod Planned
-pub mod Going
-pub mod Rows
+mod Planned
+mod Going
+mod Rows
 pub mod Called
 pub mod Observed
-pub mod Others
+mod Others
 pub mod Intact
 pub mod Making
 pub mod Made
 pub mod Promise
 pub mod Ending
+mod Moments
 pub mod Complete
-pub mod Facts
+mod Facts
 pub mod Numbers
-pub mod InputA
+mod InputA

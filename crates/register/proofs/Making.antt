@@ -1,4 +1,8 @@
 -- A fresh area: it is an area, it is undamaged, and everything that a run keeps holds at its beginning.
+--     first-memory, at-desk               the fresh memory; desks are 0
+--     fresh-length, fresh-view, fresh-readers, fresh-capacity, fresh-area   the words of a fresh area
+--     first-whole                         it is undamaged
+--     first-counted, first-told, first-bounded, first-dated, first-clean   what a run keeps
 -- Assumes nothing.
 use mathlib.Core.Path.{_≡_, refl, sym, ap, _∙_, fun-ext}
 use mathlib.Core.Logic.{_≢_}
@@ -20,7 +24,7 @@ use Rattle.register.proofs.Tests.{passed, all-pass, same-either}
 use Rattle.register.proofs.Sums.{sum-same, sum-zero, sum-ones}
 use Rattle.register.proofs.Places.{copied-elsewhere, row, row-copied}
 use Rattle.register.proofs.Tables.{view-store, view-here, length-store, Has, AllHas}
-use Rattle.register.proofs.Form1.{all-has, has-header, own-slot, own-contents, own-copied}
+use Rattle.register.proofs.Form1.{all-has, has-header, body-slot, body-contents, body-copied}
 use Rattle.register.proofs.Balance.{idle}
 use Rattle.register.proofs.Counting.{is-bound, bound, bound-away, Counted}
 use Rattle.register.specs.Conditions.{Whole}
@@ -82,9 +86,9 @@ module _ (n c : ℕ) (v : Record) where
         (ltb→lt i 8 t) in
         also (h 0 tt)
         (also (h 1 tt) (also (h 2 tt) (also (h 3 tt) (also (h 4 tt) (also (h 5 tt) (also (h 6 tt) (also (h 7 tt)
-        (also (own-slot n c 2 0 (omega arith) (omega arith) .has)
+        (also (body-slot n c 2 0 (omega arith) (omega arith) .has)
         (all-has n c
-        (own-copied n c (contents 0) (λ i k. own-contents n c 0 i (omega arith) k) v 0 (omega arith)))))))))))
+        (body-copied n c (contents 0) (λ i k. body-contents n c 0 i (omega arith) k) v 0 (omega arith)))))))))))
 
     pub fresh-length : length (fresh n c v) ≡ total (form1 n c)
     fresh-length = length-store (form1 n c) (replicate (total (form1 n c)) 0) (making n c v)

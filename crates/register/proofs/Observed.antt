@@ -1,4 +1,9 @@
--- What the history sees of an accepted call is what the call did. Assumes nothing.
+-- What the history sees of an accepted call is what the call did.
+--     Says, says                          what each deed says of the memories before and after
+--     shows-desk                          the record that showing gives is the one in the desk
+--     same-ended                          a step answers "ended" where its plan ends
+--     observed                            the event of an accepted call is that of its move
+-- Assumes nothing.
 use mathlib.Core.Path.{_≡_, refl, sym, ap, subst, _∙_}
 use mathlib.Core.Bool.{Bool, true, false, cond, _&&_}
 use mathlib.Core.List.{List, []}
@@ -21,44 +26,45 @@ use Rattle.register.proofs.Tests.{passed, true-passes, all-pass, eqb-sa
 use Rattle.register.specs.Demands.{none, also}
 use Rattle.register.proofs.Places.{row-same}
 use Rattle.register.proofs.Tables.{view-here, words-row}
-use Rattle.register.proofs.Form1.{own-read-record}
+use Rattle.register.proofs.Form1.{body-read-record}
 use Rattle.register.proofs.Moves
 use Rattle.register.proofs.Moves.{Does, by, desk-record}
 use Rattle.register.proofs.Planned.{seen, seen-got, seen-reader, seen-writer}
 use Rattle.register.proofs.Called.{Opened, does, after-head, after-area, after-view, after-memory, after-exact}
 use Rattle.register.proofs.Called.{after-whole, after-sound}
 
--- a reader whose read has ended is idle, and has finished
-abbrev Rested : Deed → Memory → ℕ → Type 0
-Rested read-began m r = Unit {0}
-Rested (write-began v) m r = Unit {0}
-Rested (went-on k) m r = Unit {0}
-Rested looked m r = Unit {0}
-Rested (published ended) m r = Unit {0}
-Rested (read-ended g) m r = (m (phase r) ≡ 0) × (m (finished r) ≡ 1)
-Rested write-ended m r = Unit {0}
+-- what a deed of process p says of the memories before and after: a reader that begins is one of the n, one whose read
+-- has ended is idle and has finished; a publication ends nothing, and a write ends in phase 7
+abbrev pub Says : ℕ → ℕ → Deed → Memory → Memory → Type 0
+Says n p read-began m m′ = p < n
+Says n p (write-began v) m m′ = Unit {0}
+Says n p (went-on k) m m′ = Unit {0}
+Says n p looked m m′ = Unit {0}
+Says n p (published ended) m m′ = ended ≡ false
+Says n p (read-ended g) m m′ = (m′ (phase p) ≡ 0) × (m′ (finished p) ≡ 1)
+Says n p write-ended m m′ = m writer-phase ≡ 7
 
-rested : {n c : ℕ} {m m′ : Memory} {e : Event} → Does n c m e m′ → Rested (e .what) m′ (e .who)
-rested (Moves.read-starts r l e) = tt
-rested (Moves.finds-same r l e x) = tt
-rested (Moves.finds-other r l e x) = tt
-rested (Moves.leaves-slot r l e x) = tt
-rested (Moves.joins-slot r l e x) = tt
-rested (Moves.takes-none r l e x) = rw (eqb-same r) (refl, refl)
-rested (Moves.takes-size r l e x) = tt
-rested (Moves.copies-word r l e x) = tt
-rested (Moves.copies-last r l e x) = rw (eqb-same r) (refl, refl)
-rested (Moves.write-starts u l e more) = tt
-rested (Moves.picks-empty e d x y) = tt
-rested (Moves.picks-slot e d x y) = tt
-rested (Moves.passes-slot e d x) = tt
-rested (Moves.fills-word e x) = tt
-rested (Moves.fills-last e x) = tt
-rested (Moves.sets-size e) = tt
-rested (Moves.clears-first e) = tt
-rested (Moves.clears-second e) = tt
-rested (Moves.exchanges e) = tt
-rested (Moves.write-ends e) = tt
+pub says : {n c : ℕ} {m m′ : Memory} {e : Event} → Does n c m e m′ → Says n (e .who) (e .what) m m′
+says (Moves.read-starts r l e) = l
+says (Moves.finds-same r l e x) = tt
+says (Moves.finds-other r l e x) = tt
+says (Moves.leaves-slot r l e x) = tt
+says (Moves.joins-slot r l e x) = tt
+says (Moves.takes-none r l e x) = rw (eqb-same r) (refl, refl)
+says (Moves.takes-size r l e x) = tt
+says (Moves.copies-word r l e x) = tt
+says (Moves.copies-last r l e x) = rw (eqb-same r) (refl, refl)
+says (Moves.write-starts u l e more) = tt
+says (Moves.picks-empty e d x y) = tt
+says (Moves.picks-slot e d x y) = tt
+says (Moves.passes-slot e d x) = tt
+says (Moves.fills-word e x) = tt
+says (Moves.fills-last e x) = tt
+says (Moves.sets-size e) = tt
+says (Moves.clears-first e) = tt
+says (Moves.clears-second e) = tt
+says (Moves.exchanges e) = refl
+says (Moves.write-ends e) = e
 
 -- the record that showing gives is the one in the desk
 pub shows-desk : (a : List ℕ) (r : ℕ) → length a ≡ total (table a) → r < readers a
@@ -74,8 +80,8 @@ shows-desk a r e l k =
     word : (j : ℕ) → j < memory a (len r) → getD a (start + j) 0 ≡ memory a (read-record r j)
     word j h =
         let here : start + j ≡ address (table a) (read-record r j) = omega arith in
-        let own = own-read-record (readers a) (capacity a) r j l (omega (arith, h, k)) in
-        ap (λ i. getD a i 0) here ∙ sym (view-here (table a) a (read-record r j) (own .has))
+        let there = body-read-record (readers a) (capacity a) r j l (omega (arith, h, k)) in
+        ap (λ i. getD a i 0) here ∙ sym (view-here (table a) a (read-record r j) (there .has))
 
 -- ---- a step of reader p that ended its read
 
@@ -95,7 +101,7 @@ module _ (a : List ℕ) (p : ℕ) (o : Opened a (step p)) where
     reader-rests =
         let deed : seen (readers a) (memory a) (step p) (o .ends) m′ ≡ read-ended (seen-got m′ p) =
         rw (lt-ltb p (readers a) l, e) in
-        subst (λ d. Rested d m′ p) deed (rested (does o .0))
+        subst (λ d. Says (readers a) p d (memory a) m′) deed (says (does o .0))
 
     still : p < readers b
     still = subst (λ k. p < k) (sym (after-head o 1 (lit< tt))) l

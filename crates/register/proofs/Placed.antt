@@ -1,5 +1,16 @@
 -- Where a read is placed among the writes, when a history is sound, and that each move of a run keeps it sound.
--- All this holds of any register. Assumes nothing.
+-- All this holds of any register.
+--     Placed, Where                       a read some writes back; a read at the write of its number
+--     Apart, AllPlaced, Sound             writes in order; reads in order, each placed; a history of such
+--     newest                              the record of the newest write
+--     later, where-later                  a read that ends later is placed where it was
+--     where-published, where-closed       a publication puts it one further back, the end of a write does not
+--     newest-where                        a read of the newest record is placed no write back
+--     where-numbered                      a placed read shows the record of the write that has its number
+--     length-closed, newest-closed, apart-later   writes that end, and time that goes on
+--     sound-at-first, Needs, sound-noted  a history is sound at first, and after one more move that has what it needs
+--     began-noted                         no operation began later than now
+-- Assumes nothing.
 use mathlib.Core.Path.{_≡_, refl, sym, _∙_}
 use mathlib.Core.Bool.{Bool, true, false, cond}
 use mathlib.Core.List.{List, [], _∷_}
@@ -8,10 +19,12 @@ use native.Mathlib.Nat.{le-refl, le-suc, le-trans}
 use native.Mathlib.Omega.{arith}
 use lib.Dec.{eqb}
 use lib.ListN.{length}
+use borrow.Author.Tests.{eq-eqb, ne-eqb}
 use Rattle.register.specs.Place.{Record}
 use Rattle.register.specs.History.{Deed, read-began, write-began, went-on, looked, published}
 use Rattle.register.specs.History.{read-ended, write-ended, Read, Write, History}
 use Rattle.register.specs.History.{changed-at, closed, the-write, noted, nothing-yet}
+use Rattle.register.specs.Demands.{record-of}
 
 -- ---- placed, apart and sound; lists of reads and of writes are newest first
 
@@ -106,6 +119,18 @@ newest-where first begin end v n writes no-writes e q =
     record { back = 0; placed = at-start e; number = omega arith }
 newest-where first begin end v n writes (one-write a b c rest) e q =
     record { back = 0; placed = at-newest c e; number = omega arith }
+
+-- a read shows the record of the write that has its number
+placed-numbered : {first : Record} {begin end back : ℕ} {v : Record} {writes : List Write} (n : ℕ)
+    → Placed first begin end v back writes → back + n ≡ length writes → v ≡ record-of first writes n
+placed-numbered n (at-start e) q = e
+placed-numbered n (at-newest {writes = writes} p e) q = rw (eq-eqb n (suc (length writes)) (omega arith)) e
+placed-numbered n (further-back {writes = writes} p rest) q =
+    rw (ne-eqb n (suc (length writes)) (λ z. omega arith)) (placed-numbered n rest (omega arith))
+
+pub where-numbered : {first : Record} {begin end n : ℕ} {v : Record} {writes : List Write}
+    → Where first begin end v n writes → v ≡ record-of first writes n
+where-numbered {n = n} a = placed-numbered n (a .placed) (a .number)
 
 -- ---- all writes and all reads, while the run goes on
 

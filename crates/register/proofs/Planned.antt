@@ -1,4 +1,7 @@
 -- An accepted plan is a move of the relation, it stores to places of the area alone, and no refusal has number 0.
+--     seen-got, seen-writer, seen-reader, seen-step, seen   what is seen of a move, from the memories before and after
+--     Outcome                             what a plan comes to: a move of the relation, or a refusal
+--     plan-does                           every plan on an undamaged memory
 -- Assumes nothing.
 use mathlib.Core.Path.{_≡_, refl, sym, ap, subst, _∙_, fun-ext}
 use mathlib.Core.Logic.{_≢_}
@@ -27,8 +30,8 @@ use Rattle.register.proofs.Tests.{if-true, if-equal, if-less, if-at-mos
 use Rattle.register.proofs.Tests.{eqb-same, same-either, differ-and-same}
 use Rattle.register.proofs.Tests.{not-differ-and-same}
 use Rattle.register.proofs.Places.{place-equal, apply-append, copied-elsewhere, copied-column}
-use Rattle.register.proofs.Form1.{Own, AllOwn, own-append, own-current, own-slot, own-contents, own-desk}
-use Rattle.register.proofs.Form1.{own-read-record, own-writer, own-write-record, own-copied}
+use Rattle.register.proofs.Form1.{InBody, AllInBody, body-append, body-current, body-slot, body-contents}
+use Rattle.register.proofs.Form1.{body-desk, body-read-record, body-writer, body-write-record, body-copied}
 use Rattle.register.proofs.Moves
 use Rattle.register.proofs.Moves.{Does, by, desk-with, to-phase, fills-to, got-now, desk-record}
 use Rattle.register.specs.Conditions.{Whole}
@@ -89,7 +92,7 @@ module _ (n c : ℕ) (m : Memory) where
   abbrev pub Outcome : ℕ → (Bool → Memory → Deed) → Plan → Type 0
   Outcome p what (refuse k) = k ≢ 0
   Outcome p what (accept stores ends) =
-      Does n c m (by p (what ends (apply m stores))) (apply m stores) × AllOwn n c stores
+      Does n c m (by p (what ends (apply m stores))) (apply m stores) × AllInBody n c stores
 
   -- seen by another name
   renamed : {p : ℕ} {d d′ : Deed} {m′ : Memory} → d ≡ d′ → Does n c m (by p d) m′
@@ -98,8 +101,8 @@ module _ (n c : ℕ) (m : Memory) where
 
   module _ (v : Whole n c m) where
     module _ (r : ℕ) (l : r < n) where
-      desk : (f : ℕ) → T (ltb f 6) → Own n c (record { part = 2; field = f; row = r; column = 0 })
-      desk f t = own-desk n c f r (ltb→lt f 6 t) l
+      desk : (f : ℕ) → T (ltb f 6) → InBody n c (record { part = 2; field = f; row = r; column = 0 })
+      desk f t = body-desk n c f r (ltb→lt f 6 t) l
 
       abbrev R : Plan → Type 0
       R = Outcome r (seen-reader m r)
@@ -121,7 +124,7 @@ module _ (n c : ℕ) (m : Memory) where
           if-less R (m (r-end (m (last r)))) (limit n) (accept (Steps.unbinds m r) false) (refuse 2)
           (λ x. (
             on 2 e (Moves.leaves-slot r l e x),
-            also (own-slot n c 1 (m (last r)) (omega arith) (v .desk r l .slot)) (also (desk 0 tt) none),
+            also (body-slot n c 1 (m (last r)) (omega arith) (v .desk r l .slot)) (also (desk 0 tt) none),
           ))
           (λ x y. omega arith)
 
@@ -131,7 +134,7 @@ module _ (n c : ℕ) (m : Memory) where
           if-less R (counter (m current)) (limit n) (accept (Steps.binds m r) false) (refuse 2)
           (λ x. (
             on 3 e (Moves.joins-slot r l e x),
-            also (own-current n c) (also (desk 1 tt) (also (desk 0 tt) none)),
+            also (body-current n c) (also (desk 1 tt) (also (desk 0 tt) none)),
           ))
           (λ x y. omega arith)
 
@@ -154,7 +157,7 @@ module _ (n c : ℕ) (m : Memory) where
           → R (cond (eqb (suc (m (pos r))) (m (len r))) (accept (Steps.copies m r ++ Steps.finishes r) true)
           (accept (Steps.copies m r) false))
       copies e =
-          let word = own-read-record n c r (m (pos r)) l (omega (arith, v .desk r l .copying e, v .desk r l .words)) in
+          let word = body-read-record n c r (m (pos r)) l (omega (arith, v .desk r l .copying e, v .desk r l .words)) in
           if-equal R (suc (m (pos r))) (m (len r)) (accept (Steps.copies m r ++ Steps.finishes r) true)
           (accept (Steps.copies m r) false)
           (λ x. (Moves.copies-last r l e x, also word (also (desk 2 tt) (also (desk 5 tt) (also (desk 0 tt) none)))))
@@ -169,11 +172,11 @@ module _ (n c : ℕ) (m : Memory) where
 
     -- ---- the writer
 
-    own : (f : ℕ) → T (ltb f 7) → Own n c (record { part = 3; field = f; row = 0; column = 0 })
-    own f t = own-writer n c f (ltb→lt f 7 t)
+    writer : (f : ℕ) → T (ltb f 7) → InBody n c (record { part = 3; field = f; row = 0; column = 0 })
+    writer f t = body-writer n c f (ltb→lt f 7 t)
 
-    hand : (f : ℕ) → T (ltb f 4) → Own n c (record { part = 1; field = f; row = m in-hand; column = 0 })
-    hand f t = own-slot n c f (m in-hand) (ltb→lt f 4 t) (v .writer .hand-one)
+    hand : (f : ℕ) → T (ltb f 4) → InBody n c (record { part = 1; field = f; row = m in-hand; column = 0 })
+    hand f t = body-slot n c f (m in-hand) (ltb→lt f 4 t) (v .writer .hand-one)
 
     abbrev W : Plan → Type 0
     W = Outcome n (λ ends m′. seen-writer (m writer-phase) ends)
@@ -192,25 +195,25 @@ module _ (n c : ℕ) (m : Memory) where
         (λ f.
         let (d, x) = differ-and-same _ _ _ _ f in
         if-equal (λ k. W (accept (to-phase k) false)) (m writer-len) 0 3 2
-        (λ y. (out-of false 1 e (Moves.picks-empty e d x y), also (own 0 tt) none))
-        (λ y. (out-of false 1 e (Moves.picks-slot e d x y), also (own 0 tt) none)))
+        (λ y. (out-of false 1 e (Moves.picks-empty e d x y), also (writer 0 tt) none))
+        (λ y. (out-of false 1 e (Moves.picks-slot e d x y), also (writer 0 tt) none)))
         (λ f.
         if-equal W (m in-hand) (suc n) (refuse 8) (accept (Steps.passes m) false) (λ x y. omega arith)
-        (λ x. (out-of false 1 e (Moves.passes-slot e (not-differ-and-same _ _ _ _ f) x), also (own 2 tt) none)))
+        (λ x. (out-of false 1 e (Moves.passes-slot e (not-differ-and-same _ _ _ _ f) x), also (writer 2 tt) none)))
 
     fills : m writer-phase ≡ 2 → W (accept (Steps.fills m) false)
     fills e =
-        let word = own-contents n c (m in-hand) (m writer-pos) (v .writer .hand-one)
+        let word = body-contents n c (m in-hand) (m writer-pos) (v .writer .hand-one)
         (omega (arith, v .writer .copying e, v .writer .words)) in
         if-equal (λ k. W (accept (fills-to m k) false)) (suc (m writer-pos)) (m writer-len) 3 2
-        (λ x. (out-of false 2 e (Moves.fills-last e x), also word (also (own 3 tt) (also (own 0 tt) none))))
-        (λ x. (out-of false 2 e (Moves.fills-word e x), also word (also (own 3 tt) (also (own 0 tt) none))))
+        (λ x. (out-of false 2 e (Moves.fills-last e x), also word (also (writer 3 tt) (also (writer 0 tt) none))))
+        (λ x. (out-of false 2 e (Moves.fills-word e x), also word (also (writer 3 tt) (also (writer 0 tt) none))))
 
     ends-write : m writer-phase ≡ 7 → W (accept (Steps.freezes m) true)
     ends-write e = (
       out-of true 7 e (Moves.write-ends e),
-      also (own-slot n c 0 (index (m old-word)) (omega arith) (v .writer .before .slot))
-          (also (own 1 tt) (also (own 6 tt) (also (own 0 tt) none))),
+      also (body-slot n c 0 (index (m old-word)) (omega arith) (v .writer .before .slot))
+          (also (writer 1 tt) (also (writer 6 tt) (also (writer 0 tt) none))),
     )
 
     writer-planned : W (writer-step n m)
@@ -220,13 +223,17 @@ module _ (n c : ℕ) (m : Memory) where
         (next (λ e y. omega arith)
         (next scans
         (next fills
-        (next (λ e. (out-of false 3 e (Moves.sets-size e), also (hand 3 tt) (also (hand 2 tt) (also (own 0 tt) none))))
-        (next (λ e. (out-of false 4 e (Moves.clears-first e), also (hand 0 tt) (also (own 0 tt) none)))
-        (next (λ e. (out-of false 5 e (Moves.clears-second e), also (hand 1 tt) (also (own 0 tt) none)))
+        (next
+        (λ e. (
+          out-of false 3 e (Moves.sets-size e),
+          also (hand 3 tt) (also (hand 2 tt) (also (writer 0 tt) none)),
+        ))
+        (next (λ e. (out-of false 4 e (Moves.clears-first e), also (hand 0 tt) (also (writer 0 tt) none)))
+        (next (λ e. (out-of false 5 e (Moves.clears-second e), also (hand 1 tt) (also (writer 0 tt) none)))
         (next
         (λ e. (
           out-of false 6 e (Moves.exchanges e),
-          also (own 5 tt) (also (own-current n c) (also (own 0 tt) none)),
+          also (writer 5 tt) (also (body-current n c) (also (writer 0 tt) none)),
         ))
         (next ends-write end))))))))
         (λ h y. omega arith)
@@ -240,9 +247,9 @@ module _ (n c : ℕ) (m : Memory) where
         if-less P (m writes-ended) most-writes (accept (begins-write u) false) (refuse 7)
         (λ x. (
           subst (Does n c m (by n (write-began u))) (sym (begun m u)) (Moves.write-starts u l e x),
-          own-append n c (copied write-record 0 u) (sets-out u)
-              (own-copied n c write-record (own-write-record n c) u 0 (omega arith))
-              (also (own 4 tt) (also (own 2 tt) (also (own 3 tt) (also (own 0 tt) none)))),
+          body-append n c (copied write-record 0 u) (sets-out u)
+              (body-copied n c write-record (body-write-record n c) u 0 (omega arith))
+              (also (writer 4 tt) (also (writer 2 tt) (also (writer 3 tt) (also (writer 0 tt) none)))),
         ))
         (λ x y. omega arith))
         (λ d y. omega arith))

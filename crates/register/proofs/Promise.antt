@@ -1,4 +1,9 @@
 -- Demand 3 and all that goes with it, over the calls: a run keeps everything, and what it keeps is the promise.
+--     Good                                what a run keeps
+--     moves-all-noted                     a history counts all moves
+--     next-good                           it keeps it over one accepted move
+--     run-begins-good, run-ends-good      it has it at the beginning, and at the end
+--     demand-3                            the theorem
 -- Assumes nothing.
 use mathlib.Core.Path.{_≡_, refl, sym, ap, subst, subst₂, _∙_}
 use mathlib.Core.Logic.{inl, inr}
@@ -72,7 +77,7 @@ module _ (n c : ℕ) (first : Record) (range : InRange n c) where
   big = omega (arith, range .few-readers)
 
   -- at the beginning
-  pub first-good : (all-moves : ℕ) → length first ≤ c → Good n c first all-moves (fresh n c first) nothing-yet
+  first-good : (all-moves : ℕ) → length first ≤ c → Good n c first all-moves (fresh n c first) nothing-yet
   first-good all-moves short =
       record {
         area = fresh-area n c first short range;
@@ -92,14 +97,14 @@ module _ (n c : ℕ) (first : Record) (range : InRange n c) where
   -- one accepted move
   module _ {all-moves : ℕ} {a : List ℕ} {h : History} (g : Good n c first all-moves a h) (x : Move)
       (accepted : answered a x .number ≡ 0) (in-time : h .moves < all-moves) where
-    pub o : Opened a x
+    o : Opened a x
     o = opened a x accepted
 
-    abbrev pub m′ : Memory
+    abbrev m′ : Memory
     m′ = apply (memory a) (o .stores)
 
     -- the move of the relation, at n and c
-    pub move : Does n c (memory a) (event a x) m′
+    move : Does n c (memory a) (event a x) m′
     move =
         subst₂ (λ j k. Does j k (memory a) (event a x) m′) (g .its-readers) (g .its-capacity)
         (subst (λ e. Does (readers a) (capacity a) (memory a) e m′) (sym (observed a x o)) (does o .0))
@@ -123,7 +128,7 @@ module _ (n c : ℕ) (first : Record) (range : InRange n c) where
         same = after-memory o
 
   -- all accepted moves
-  pub run-good : {all-moves : ℕ} (a : List ℕ) (l : List Move) (h : History) → Accepted a l → h .moves + length l
+  run-good : {all-moves : ℕ} (a : List ℕ) (l : List Move) (h : History) → Accepted a l → h .moves + length l
       ≡ all-moves
       → Good n c first all-moves a h → Good n c first all-moves (after a l) (all-noted all-moves h (events a l))
   run-good a [] h none e g = g

@@ -1,4 +1,6 @@
--- An accepted move leaves an undamaged memory undamaged, wherever it came from. Assumes nothing.
+-- An accepted move leaves an undamaged memory undamaged, wherever it came from.
+--     stays-whole                         one clause for each move of the relation
+-- Assumes nothing.
 use mathlib.Core.Path.{_≡_}
 use mathlib.Core.List.{_++_}
 use Prim.Native.Nat.{ℕ, suc, _*_, _≤_, _<_}

@@ -1,4 +1,15 @@
--- Counting steps over bare numbers: what a reader and the writer under way have made at each phase. Assumes nothing.
+-- Counting steps over bare numbers: what a reader and the writer under way have made at each phase.
+--     Turns, ReaderSteps                  k steps or k + 2; the steps of a reader at each phase
+--     at-rest, first-step                 an idle reader, one that has just begun
+--     step-on, step-binds, step-sizes, step-copies   one step more, by the phase that it leads to
+--     ends-exactly                        a read of L words takes L + 2 or L + 4
+--     few-early, few-late                 under way it has taken fewer
+--     WriterSteps                         the looks and steps of the writer at each phase
+--     begin-steps, no-steps               a writer that has just begun, an idle one
+--     look-finds, look-passes             writer step 1
+--     fill-steps, fill-last               writer step 2
+--     next-step, publish-step             writer steps 3 to 5, and 6
+-- Assumes nothing.
 use mathlib.Core.Path.{_≡_, refl}
 use mathlib.Core.Logic.{_≢_, _⊎_, inl, inr}
 use Prim.Native.Nat.{ℕ, suc, _+_, _≤_, _<_}

@@ -1,5 +1,6 @@
 -- What the memory holds and what the run has told: the slots that matter hold whole writes, and each finished read is
 -- placed.
+--     tells                               every accepted move keeps `Told`, one clause for each move of the relation
 -- Assumes nothing.
 use mathlib.Core.Path.{_≡_, refl, sym, _∙_}
 use mathlib.Core.Logic.{_≢_}

@@ -1,4 +1,17 @@
--- Tests on numbers: what a test that passes or fails says, and what holds of either branch. Assumes nothing.
+-- Tests on numbers: what a test that passes or fails says, and what holds of either branch.
+--     passed, true-passes                 a test that passes is true, and the other way
+--     both, joined                        two tests that pass
+--     each-passes, all-pass               a list of tests that pass
+--     where-passed, unless-passed         a test that is asked where another one passes
+--     where-failed, unless-failed         a test that is asked where another one fails
+--     differ-and-same, not-differ-and-same   two numbers that differ and two that do not
+--     each-of, of-each                    a test that each number of a range passes
+--     each-follows                        what holds of each of a list, from something else that does
+--     eqb-same, hit, miss, same-either    a branch whose test is known, or whose sides are the same
+--     if-true, if-equal, if-less, if-at-most   what holds of both sides holds of the branch
+--     Numbered, at-number                 what holds of every plan of a list holds of the one that is picked
+--     at-each                             what holds of one number and of every other
+-- Assumes nothing.
 use mathlib.Core.Path.{_≡_, refl, sym, subst, _∙_}
 use mathlib.Core.Logic.{_≢_}
 use mathlib.Core.Bool.{Bool, true, false, cond, _&&_, _||_, not}

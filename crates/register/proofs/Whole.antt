@@ -1,4 +1,7 @@
--- Test 2 as facts: a memory passes it exactly if each slot, desk and word is whole. Assumes nothing.
+-- Test 2 as facts: a memory passes it exactly if each slot, desk and word is whole.
+--     word-of                             a word that passes
+--     whole-of, of-whole                  a memory that passes is whole, and the other way
+-- Assumes nothing.
 use mathlib.Core.Path.{_≡_, sym, subst, _∙_}
 use mathlib.Core.Logic.{_≢_}
 use mathlib.Core.Bool.{false}

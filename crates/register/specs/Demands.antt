@@ -1,16 +1,17 @@
 -- What is promised: demand 3 with its bounds, that every operation ends, and what any call keeps. Assumes nothing.
 use mathlib.Core.Path.{_≡_}
 use mathlib.Core.Logic.{_≢_, _⊎_}
-use mathlib.Core.Bool.{Bool, true, false, cond, _&&_, not}
+use mathlib.Core.Bool.{Bool, true, false, cond, not}
 use mathlib.Core.List.{List, [], _∷_}
-use Prim.Native.Nat.{ℕ, _+_, _-_, _*_, _≤_, _<_}
+use Prim.Native.Nat.{ℕ, suc, _+_, _-_, _*_, _≤_, _<_}
 use lib.Dec.{eqb, ltb, leb}
 use lib.ListN.{length, getD}
 use Rattle.register.specs.Place.{Record, Store}
 use Rattle.register.specs.Table.{Table, address, has}
-use Rattle.register.specs.Area.{phase, len, writer-phase, writer-len, writes-ended, most-writes}
+use Rattle.register.specs.Area.{phase, len, desk-write-number, writer-phase, writer-len, writes-ended}
+use Rattle.register.specs.Area.{most-writes}
 use Rattle.register.specs.Area.{readers, capacity, table, is-area, memory, undamaged}
-use Rattle.register.specs.Steps.{accept, Move, read, write, step, mover, plan}
+use Rattle.register.specs.Steps.{accept, Move, mover, plan}
 use Rattle.register.specs.Calls.{Answer, made, answered, read-begun, write-begun, stepped, shown}
 use Rattle.register.specs.History.{after, Accepted, Write, History, history}
 use Rattle.register.specs.Line.{Line}
@@ -85,15 +86,28 @@ pub record NeverStuck (n c : ℕ) (a : List ℕ) : Type 0 where
       ≡ cond (ltb p n) (cond (eqb (memory a (phase p)) 0) 6 0)
       (cond (eqb p n) (cond (eqb (memory a writer-phase) 0) 6 0) 3)
 
--- operations under way are within their bounds too; a length not yet known counts as c
-pub record UnderWay (n c : ℕ) (a : List ℕ) (h : History) : Type 0 where
+-- the record of write number k: the starting record is number 0, and the newest of a list of writes has the list's
+-- length for its number
+abbrev pub record-of : Record → List Write → ℕ → Record
+record-of first [] k = first
+record-of first (w ∷ l) k = cond (eqb k (suc (length l))) (w .gives) (record-of first l k)
+
+-- operations under way are within their bounds too
+pub record UnderWay (n : ℕ) (first : Record) (a : List ℕ) (h : History) : Type 0 where
   pub looks : memory a writer-phase ≢ 0 → h .looks ≤ n + 2
-  pub writes : memory a writer-phase ≢ 0 → h .steps n < n + memory a writer-len + 7
-  pub reads : (r : ℕ) → r < n → memory a (phase r) ≢ 0
-      → h .steps r < cond (eqb (memory a (phase r)) 5) (memory a (len r)) c + 4
+  -- a write of L words: L is the length of the record that was handed to its begin, and the desk has it
+  pub write-length : memory a writer-phase ≢ 0 → memory a writer-len ≡ length (h .given)
+  pub writes : memory a writer-phase ≢ 0 → h .steps n < n + length (h .given) + 7
+  -- a read that has not yet learnt its length
+  pub early-reads : (r : ℕ) → r < n → memory a (phase r) ≢ 0 → memory a (phase r) ≢ 5 → h .steps r < 4
+  -- a read of L words: L is the length of the record of the write whose number stands in the desk
+  pub read-number : (r : ℕ) → r < n → memory a (phase r) ≡ 5 → memory a (desk-write-number r) ≤ length (h .writes)
+  pub read-length : (r : ℕ) → r < n → memory a (phase r) ≡ 5
+      → memory a (len r) ≡ length (record-of first (h .writes) (memory a (desk-write-number r)))
+  pub reads : (r : ℕ) → r < n → memory a (phase r) ≡ 5 → h .steps r < memory a (len r) + 4
 
 abbrev pub Ends : Type 0
-Ends = (u : Run) → NeverStuck (u .n) (u .c) (now u) × UnderWay (u .n) (u .c) (now u) (told u)
+Ends = (u : Run) → NeverStuck (u .n) (u .c) (now u) × UnderWay (u .n) (u .first) (now u) (told u)
 
 -- ---- what any call keeps, on any words
 
@@ -147,36 +161,3 @@ pub record Makes : Type 0 where
       → (is-area (made form n c v a .area) ≡ true) × (undamaged (made form n c v a .area) ≡ true)
   pub refused : (form n c : ℕ) (v : Record) (a : List ℕ) → made form n c v a .number ≢ 0
       → Refused a (made form n c v a)
-
--- ---- the history leaves nothing out
-
--- how many moves pass a test of the area before, and the move
-abbrev pub how-many : (List ℕ → Move → Bool) → List ℕ → List Move → ℕ
-how-many test a [] = 0
-how-many test a (x ∷ l) = cond (test a x) 1 0 + how-many test (answered a x .area) l
-
--- a step of a reader that answered "ended"
-abbrev pub ends-read : List ℕ → Move → Bool
-ends-read a (read r) = false
-ends-read a (write v) = false
-ends-read a (step p) = ltb p (readers a) && stepped a p .ended
-
--- a step out of writer phase 6
-abbrev pub publication : List ℕ → Move → Bool
-publication a (read r) = false
-publication a (write v) = false
-publication a (step p) = eqb p (readers a) && eqb (memory a writer-phase) 6
-
--- a step of the writer that answered "ended"
-abbrev pub ends-write : List ℕ → Move → Bool
-ends-write a (read r) = false
-ends-write a (write v) = false
-ends-write a (step p) = eqb p (readers a) && stepped a p .ended
-
-pub record Complete (u : Run) : Type 0 where
-  pub reads : length (told u .reads) ≡ how-many ends-read (beginning u) (u .moves)
-  pub published : length (told u .writes) ≡ how-many publication (beginning u) (u .moves)
-  pub ended : ended-before (length (u .moves)) (told u .writes) ≡ how-many ends-write (beginning u) (u .moves)
-
-abbrev pub LeavesNothingOut : Type 0
-LeavesNothingOut = (u : Run) → Complete u

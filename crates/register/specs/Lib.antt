@@ -9,3 +9,4 @@ pub mod Numbers
 pub mod History
 pub mod Line
 pub mod Demands
+pub mod Complete
