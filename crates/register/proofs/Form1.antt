@@ -9,7 +9,8 @@ use Rattle.register.specs.Place.{Record, Place, Store, copied}
 use Rattle.register.specs.Table.{address}
 use Rattle.register.specs.Area.{form1, header, current, slot-field, contents, desk-field, read-record}
 use Rattle.register.specs.Area.{writer-field, write-record}
-use Rattle.register.specs.Demands.{Each, none, also, Untouched}
+use Rattle.register.specs.Lists.{Each, none, also}
+use Rattle.register.specs.Table.{Untouched}
 use Rattle.register.proofs.Tests.{each-follows}
 use Rattle.register.proofs.Tables.{Has, AllHas}
 

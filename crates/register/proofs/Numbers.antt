@@ -26,8 +26,8 @@ use Rattle.register.specs.Numbers.{Row, _if_, Given, make-rows, Idle, re
 use Rattle.register.specs.Numbers.{bound, read-rows, write-rows, step-rows, Numbers}
 use Rattle.register.proofs.Tests.{true-passes, both}
 use Rattle.register.proofs.Tests.{end, next, at-number, if-true, if-equal, if-less, differ-and-same, not-differ-and-same}
-use Rattle.register.proofs.Called.{its-plan, range-facts}
-use Rattle.register.proofs.Going.{number-of}
+use Rattle.register.proofs.Facts.{its-plan, range-facts}
+use Rattle.register.proofs.Facts.{number-of}
 use Rattle.register.proofs.Rows.{Says, unless-not, unless-below, unless-at-most, unless-equal, row}
 use Rattle.register.proofs.Rows.{passes, holds, nothing-more}
 use Rattle.register.proofs.Facts.{range-is, area-is, undamaged-is, own-is}

@@ -24,7 +24,8 @@ use borrow.Author.Tests.{eq-eqb, ne-eqb, lt-ltb}
 use Rattle.register.specs.Place.{Place, changed, Store, apply}
 use Rattle.register.specs.Table.{Table, width, base, total, address, has, view, store}
 use Rattle.register.specs.Calls.{words-from}
-use Rattle.register.specs.Demands.{Each, also, Untouched}
+use Rattle.register.specs.Lists.{Each, also}
+use Rattle.register.specs.Table.{Untouched}
 use Rattle.register.proofs.Tests.{both, true-passes}
 use Rattle.register.proofs.Places.{place-equal, place-discrete, changed-here, changed-elsewhere, row, row-same}
 

@@ -23,7 +23,7 @@ use lib.Dec.{T, T-not, eqb, leb, ltb, eqb→eq, eqb-refl, leb→le, le→leb, lt
 use lib.ListN.{length, getD}
 use borrow.Author.Tests.{eq-eqb, ne-eqb}
 use Rattle.register.specs.Area.{all, every}
-use Rattle.register.specs.Demands.{Each, none, also}
+use Rattle.register.specs.Lists.{Each, none, also}
 
 -- ---- a test as a fact
 

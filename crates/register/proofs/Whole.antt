@@ -16,7 +16,7 @@ use Rattle.register.specs.Area.{writer-phase, writer-pos, old-word}
 use Rattle.register.specs.Area.{all, word-sound, slot-sound, desk-sound, writer-sound}
 use Rattle.register.specs.Area.{slot-tests, desk-tests, writer-tests, memory-tests}
 use Rattle.register.specs.Conditions.{WordWhole, Slot, Desk, Writer, Whole}
-use Rattle.register.specs.Demands.{Each, none, also}
+use Rattle.register.specs.Lists.{Each, none, also}
 use Rattle.register.proofs.Tests.{both, joined, each-passes, all-pass}
 use Rattle.register.proofs.Tests.{where-passed, unless-passed, where-failed, unless-failed, each-of, of-each}
 use Rattle.register.proofs.Tests.{true-passes}

@@ -75,6 +75,11 @@ write-begun a v = answered a (write v)
 abbrev pub stepped : List ℕ → ℕ → Answer
 stepped a p = answered a (step p)
 
+-- the area after some moves
+abbrev pub after : List ℕ → List Move → List ℕ
+after a [] = a
+after a (x ∷ l) = after (answered a x .area) l
+
 -- ---- showing a record
 
 -- whether it is the reader's: the area is undamaged, the reader exists, is idle and has finished

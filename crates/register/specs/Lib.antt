@@ -1,4 +1,5 @@
 -- Document 01 as definitions, in the order in which to read them. Assumes nothing.
+pub mod Lists
 pub mod Place
 pub mod Table
 pub mod Area
@@ -6,7 +7,3 @@ pub mod Conditions
 pub mod Steps
 pub mod Calls
 pub mod Numbers
-pub mod History
-pub mod Line
-pub mod Demands
-pub mod Complete
