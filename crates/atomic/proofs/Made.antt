@@ -2,22 +2,22 @@
 -- nothing.
 -- Assumes nothing.
 use mathlib.Core.Path.{_≡_, refl, _∙_}
-use mathlib.Core.Logic.{_≢_}
+use mathlib.Core.Logic.{_≢_, ⊎-elim}
 use mathlib.Core.Bool.{true, _&&_}
 use mathlib.Core.List.{List}
-use Prim.Native.Nat.{ℕ, _+_, _*_, _≤_}
+use Prim.Native.Nat.{ℕ, _≤_}
 use native.Mathlib.Omega.{arith}
-use lib.Dec.{eqb, leb, leb→le, le→leb}
+use lib.Dec.{eqb, leb, leb→le}
 use lib.ListN.{length}
-use borrow.Author.Tests.{eq-eqb}
 use Rattle.register.specs.Place.{Record}
 use Rattle.register.specs.Table.{total, view}
-use Rattle.register.specs.Area.{form1, range-tests, in-range, known-form, memory, undamaged}
+use Rattle.register.specs.Area.{form1, in-range, known-form, memory, undamaged}
 use Rattle.register.specs.Calls.{Answer, refused, fresh, made}
-use Rattle.register.specs.Lists.{none, also}
 use Rattle.atomic.specs.Demands.{Refused, Makes}
-use Rattle.register.proofs.Tests.{passed, true-passes, both, all-pass, if-true}
-use Rattle.register.specs.Conditions.{InRange}
+use Rattle.register.proofs.Tests.{true-passes, both, if-true}
+use Rattle.register.specs.Conditions.{InRange, T-of}
+use Rattle.register.specs.Numbers.{by-none, by-later}
+use Rattle.register.proofs.Numbers.{numbers}
 use Rattle.register.proofs.Facts.{range-facts, sound-area}
 use Rattle.atomic.proofs.Called.{refused-is}
 use Rattle.atomic.proofs.Making.{first-memory, fresh-view, fresh-readers, fresh-capacity, fresh-area}
@@ -64,16 +64,13 @@ module _ (n c : ℕ) (v : Record) (range : InRange n c) (short : length v ≤ c)
 
 -- ---- the theorem
 
-accepted-when : (n c : ℕ) (v : Record) (a : List ℕ) → 1 ≤ n → n ≤ 64 → 1 ≤ c → c ≤ 256
-    → length a ≡ 8 + (n + 2) * (4 + c) + n * (6 + c) + 7 + c → length v ≤ c → made 1 n c v a .number ≡ 0
-unfolding made
-accepted-when n c v a n1 n64 c1 c256 l short =
-    let exact : length a ≡ total (form1 n c) = omega arith in
-    let range : in-range n c ≡ true =
-    passed _
-    (all-pass (range-tests n c)
-    (also (le→leb _ _ n1) (also (le→leb _ _ n64) (also (le→leb _ _ c1) (also (le→leb _ _ c256) none))))) in
-    rw (range, eq-eqb (length a) (total (form1 n c)) exact, passed (leb (length v) c) (le→leb _ _ short))
+-- numbers in range, as many words as T, a record that fits
+pub accepted-when : (n c : ℕ) (v : Record) (a : List ℕ) → InRange n c → length a ≡ T-of n c → length v ≤ c
+    → made 1 n c v a .number ≡ 0
+accepted-when n c v a range exact short =
+    numbers .making 1 n c v a 0 .1
+    (by-later (⊎-elim (λ d. d refl) (λ d. d range))
+    (by-later (λ d. d exact) (by-later (λ h. omega arith) (by-none refl))))
 
 refused-made : (form n c : ℕ) (v : Record) (a : List ℕ) → made form n c v a .number ≢ 0
     → Refused a (made form n c v a)
@@ -93,7 +90,6 @@ refused-made form n c v a =
 pub makes : Makes
 makes =
     record {
-      accepted = accepted-when;
       sound = λ form n c v a z.
           let w = made-well form n c v a z in
           rw (w .area) (fresh-area n c v (w .short) (w .range), fresh-sound n c v (w .range) (w .short));

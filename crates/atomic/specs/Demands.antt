@@ -3,7 +3,7 @@ use mathlib.Core.Path.{_≡_}
 use mathlib.Core.Logic.{_≢_, _⊎_}
 use mathlib.Core.Bool.{Bool, true, false, cond, not}
 use mathlib.Core.List.{List, [], _∷_}
-use Prim.Native.Nat.{ℕ, suc, _+_, _-_, _*_, _≤_, _<_}
+use Prim.Native.Nat.{ℕ, suc, _+_, _-_, _≤_, _<_}
 use lib.Dec.{eqb, ltb, leb}
 use lib.ListN.{length, getD}
 use Rattle.register.specs.Lists.{Each}
@@ -147,10 +147,8 @@ Keeps = (a : List ℕ) (x : Move)
 
 -- ---- making
 
--- the ranges and the total in document 01's own numerals
+-- when it is accepted, and which number it answers where it is not, is a part of `Numbers`
 pub record Makes : Type 0 where
-  pub accepted : (n c : ℕ) (v : Record) (a : List ℕ) → 1 ≤ n → n ≤ 64 → 1 ≤ c → c ≤ 256
-      → length a ≡ 8 + (n + 2) * (4 + c) + n * (6 + c) + 7 + c → length v ≤ c → made 1 n c v a .number ≡ 0
   pub sound : (form n c : ℕ) (v : Record) (a : List ℕ) → made form n c v a .number ≡ 0
       → (is-area (made form n c v a .area) ≡ true) × (undamaged (made form n c v a .area) ≡ true)
   pub refused : (form n c : ℕ) (v : Record) (a : List ℕ) → made form n c v a .number ≢ 0

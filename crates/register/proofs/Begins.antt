@@ -32,8 +32,8 @@ record Change : Type 0 where
   was : ℕ
   is : ℕ
 
-abbrev turns : Place → ℕ → ℕ → Change
-turns p x y = record { at = address (table old) p; was = x; is = y }
+abbrev becomes : Place → ℕ → ℕ → Change
+becomes p x y = record { at = address (table old) p; was = x; is = y }
 
 -- the words that differ, from address i on; past a list's end they are 0
 abbrev changes : ℕ → List ℕ → List ℕ → List Change
@@ -48,13 +48,13 @@ record Touches (x : Answer) (l : List Change) : Type 0 where
   accepted : x .number ≡ 0
   touched : changes 0 old (x .area) ≡ l
 
-read-touches : Touches (read-begun old 0) (turns (phase 0) 0 1 ∷ [])
+read-touches : Touches (read-begun old 0) (becomes (phase 0) 0 1 ∷ [])
 unfolding is-area slot-sound desk-sound writer-sound undamaged carried-out answered
 read-touches = record { accepted = refl; touched = refl }
 
 -- a record of one word: the second of the old one stays
 write-touches : Touches (write-begun old (9 ∷ []))
-    (turns writer-phase 0 1 ∷ turns in-hand 1 0 ∷ turns writer-pos 2 0 ∷ turns writer-len 2 1
-    ∷ turns (write-record 0) 13 9 ∷ [])
+    (becomes writer-phase 0 1 ∷ becomes in-hand 1 0 ∷ becomes writer-pos 2 0 ∷ becomes writer-len 2 1
+    ∷ becomes (write-record 0) 13 9 ∷ [])
 unfolding is-area slot-sound desk-sound writer-sound undamaged carried-out answered
 write-touches = record { accepted = refl; touched = refl }
