@@ -10,3 +10,4 @@ pub mod Form1
 mod Rows
 pub mod Facts
 pub mod Numbers
+pub mod Stands

@@ -7,3 +7,4 @@ pub mod Conditions
 pub mod Steps
 pub mod Calls
 pub mod Numbers
+pub mod Stands
