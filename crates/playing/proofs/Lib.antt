@@ -1,8 +1,4 @@
--- The proofs about runs: laws of the definitions, and what a run file's run is. Assumes nothing.
-pub mod Values
+-- The proofs about one move and the begin of a run: laws of the definitions. Assumes nothing.
+mod Values
 pub mod Starting
-pub mod OneMove
-pub mod Tallies
-pub mod ReadsGot
-pub mod ReadCosts
-pub mod Runs
+mod OneMove

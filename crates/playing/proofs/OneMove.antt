@@ -1,14 +1,11 @@
 -- One move of a run file, one law for each way through the code. Assumes nothing.
 use mathlib.Core.Path.{_≡_, refl, sym, ap, _∙_}
 use mathlib.Core.Bool.{Bool, true, false}
-use mathlib.Core.List.{List, [], _∷_}
-use mathlib.Core.Logic.{inl, inr}
+use mathlib.Core.List.{List}
 use Prim.Native.Nat.{ℕ, _+_, _≤_, _<_, min}
 use native.Mathlib.Decide.{ℕ-discrete}
 use native.Mathlib.Omega.{arith}
 use borrow.Author.Tests.{le-leb, lt-leb, eq-eqb, ne-eqb}
-use types.Run.{OneOf}
-use denote.Enum.Declared.{tagOf}
 use lib.ListN.{length, take, replicate}
 use Rattle.register.specs.Place.{Record}
 use Rattle.register.specs.Area.{is-area, capacity}
@@ -18,27 +15,18 @@ use Rattle.register.proofs.Called.{area-facts}
 use Rattle.answer.specs.Carried.{whole}
 use Rattle.answer.specs.declared.Answer.{Answer as Returned}
 use Rattle.runfile.specs.Bytes.{words-at}
-use Rattle.runfile.specs.RunFile.{readers, moves, values, Written, Asked, nothing, values-for, move, asked}
-use Rattle.runfile.specs.Code.{header-of, as-asked}
-use Rattle.runfile.specs.declared.types.Asked.{Asked as CodeAsked}
-use Rattle.runfile.specs.declared.types.Asked.the-variants as variants
-use Rattle.runfile.proofs.types.Asked as M
+use Rattle.runfile.specs.RunFile.{values, values-for, move}
+use Rattle.runfile.specs.Code.{header-of}
 use Rattle.runfile.specs.declared.types.Header.{Header}
 use Rattle.text.specs.Sheet.{pasted}
-use Rattle.playing.specs.Play.{Outcome, outcome, played}
-use Rattle.playing.specs.Code.{as-outcome, state}
+use Rattle.playing.specs.Play.{Outcome, outcome}
+use Rattle.playing.specs.Code.{as-outcome, state, one-too-many}
 use Rattle.playing.specs.declared.types.Played.{Played}
 use Rattle.playing.proofs.Values.{place, words-length, front-words}
 
--- a count of a header that was decoded
+-- the count of values of a header that was read
 pub its-values : (b : List ℕ) {h : Header} → h ≡ header-of b → h .values ≡ values b
 its-values b e = ap (λ h. h .values) e
-
-pub its-readers : (b : List ℕ) {h : Header} → h ≡ header-of b → h .n ≡ readers b
-its-readers b e = ap (λ h. h .n) e
-
-pub its-moves : (b : List ℕ) {h : Header} → h ≡ header-of b → h .moves ≡ moves b
-its-moves b e = ap (λ h. h .moves) e
 
 -- what the code returns of a call
 abbrev pub tell : Returned → ℕ → Played
@@ -65,8 +53,8 @@ too-long a u v long-u long-v = go (is-area a) refl
         rw (lt-leb (length u) (capacity a) (omega arith), lt-leb (length v) (capacity a) (omega arith))
     go false e = rw e
 
--- so of a longer one the first 257 are enough
-cut : (a b : List ℕ) (i k len : ℕ) → k ≡ min len 257
+-- so of a longer one the first words up to that one are enough
+cut : (a b : List ℕ) (i k len : ℕ) → k ≡ min len one-too-many
     → answered a (write (words-at k b i)) ≡ answered a (write (words-at len b i))
 cut a b i k len e = go (ℕ-discrete k len)
   where
@@ -84,12 +72,12 @@ module _ (b a : List ℕ) (used len : ℕ) (x : Played) (r : Returned) where
       told x r used a {v = used + 0} d (ap (λ z. whole z a) e) (omega arith)
       ∙ sym (rw (lt-leb (used + len) (values b) h))
 
-  module _ (a′ l : List ℕ) (k : ℕ) (enough : used + len ≤ values b) (short : k ≡ min len 257)
-      (full : l ≡ pasted (replicate 257 0) 0 (words-at k b (place b used)))
+  module _ (a′ l : List ℕ) (k : ℕ) (enough : used + len ≤ values b) (short : k ≡ min len one-too-many)
+      (full : l ≡ pasted (replicate one-too-many 0) 0 (words-at k b (place b used)))
       (called : whole r a′ ≡ answered a (write (take k l))) where
     its-answer : whole r a′ ≡ answered a (write (words-at len b (place b used)))
     its-answer =
-        called ∙ ap (λ u. answered a (write u)) (front-words 257 k b (place b used) l (omega arith) full)
+        called ∙ ap (λ u. answered a (write u)) (front-words one-too-many k b (place b used) l (omega arith) full)
         ∙ cut a b (place b used) k len short
 
     -- accepted, the values are used up
@@ -110,37 +98,7 @@ module _ (b a : List ℕ) (used len : ℕ) (x : Played) (r : Returned) where
 
 -- ---- the other ways
 
-pub malformed : (b a : List ℕ) (used : ℕ) (x : Played) (r : Returned)
-    → r ≡ record { number = 12; ended = false; age = 0 }
-    → x ≡ tell r used → as-outcome x a ≡ outcome b (state a used) nothing
-malformed b a used x r e d = told x r used a d (ap (λ z. whole z a) e) (omega arith)
-
 pub moved : (b a a′ : List ℕ) (used : ℕ) (x : Played) (r : Returned) (y : Move)
     → whole r a′ ≡ answered a y → x ≡ tell r used
     → as-outcome x a′ ≡ outcome b (state a used) (move y)
 moved b a a′ used x r y e d = told x r used a′ d e (omega arith)
-
--- what is neither a step nor a begin, by its tag
-pub neither : (m : CodeAsked) → OneOf (0 ∷ 1 ∷ 2 ∷ []) (tagOf M.the-type m)
-    → OneOf (0 ∷ 1 ∷ 3 ∷ []) (tagOf M.the-type m) → OneOf (0 ∷ 2 ∷ 3 ∷ []) (tagOf M.the-type m)
-    → nothing ≡ as-asked m
-neither variants.Nothing f g h = refl
-neither (variants.Values k) f g (inl e) = absurd (omega arith)
-neither (variants.Values k) f g (inr (inl e)) = absurd (omega arith)
-neither (variants.Values k) f g (inr (inr e)) = absurd (omega arith)
-neither (variants.Read r) f (inl e) h = absurd (omega arith)
-neither (variants.Read r) f (inr (inl e)) h = absurd (omega arith)
-neither (variants.Read r) f (inr (inr e)) h = absurd (omega arith)
-neither (variants.Step q) (inl e) g h = absurd (omega arith)
-neither (variants.Step q) (inr (inl e)) g h = absurd (omega arith)
-neither (variants.Step q) (inr (inr e)) g h = absurd (omega arith)
-
--- what was decoded is what the definition asks for
-pub as-played : (b a : List ℕ) (used : ℕ) (w : Written) (n : ℕ) (v : Written) (y : Asked) → n ≡ readers b
-    → v ≡ w
-    → y ≡ asked n v → outcome b (state a used) y ≡ played b (state a used) w
-unfolding played
-as-played b a used w n v y e d f = ap (outcome b (state a used)) (f ∙ ap2 e d)
-  where
-    ap2 : n ≡ readers b → v ≡ w → asked n v ≡ asked (readers b) w
-    ap2 p q = rw (p, q)

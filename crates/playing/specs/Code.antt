@@ -11,3 +11,7 @@ as-outcome x a =
 
 abbrev pub state : List ℕ → ℕ → State
 state a used = record { area = a; used = used }
+
+-- one word more than the largest C: a record of so many words is too long for every area
+abbrev pub one-too-many : ℕ
+one-too-many = 257

@@ -11,25 +11,26 @@ use Rattle.register.specs.Area.{all}
 use Rattle.register.specs.Demands.{Each, none, also}
 use Rattle.register.proofs.Tests.{true-passes, each-passes}
 use Rattle.runfile.specs.RunFile.{readers, capacity, starting-length, moves, moves-at, values, values-at}
-use Rattle.runfile.specs.RunFile.{file-tests, is-run-file, Written, written}
+use Rattle.runfile.specs.RunFile.{header-bytes, file-tests, is-run-file, Written, written}
 use Rattle.runfile.specs.Bytes.{number-at}
-use Rattle.runfile.specs.Code.{size-tests, part-tests}
+use Rattle.runfile.specs.Code.{header-of, size-tests, part-tests}
+use Rattle.runfile.specs.declared.types.Header.{Header}
 
 -- ---- a file that passed
 
 pub record FileFacts (b : List ℕ) : Type 0 where
-  pub whole-header : 28 ≤ length b
+  pub whole-header : header-bytes ≤ length b
   pub some-readers : 1 ≤ readers b
   pub few-readers : readers b ≤ 8
   pub some-words : 1 ≤ capacity b
   pub few-words : capacity b ≤ 32
   pub short : starting-length b ≤ capacity b
   pub few-moves : moves b ≤ 4000
-  pub moves-place : moves-at b ≡ 28
+  pub moves-place : moves-at b ≡ header-bytes
   pub few-values : values b ≤ 1000
   pub recorded : starting-length b ≤ values b
-  pub values-place : values-at b ≡ 28 + 4 * moves b
-  pub exact : length b ≡ 28 + 4 * moves b + 8 * values b
+  pub values-place : values-at b ≡ header-bytes + 4 * moves b
+  pub exact : length b ≡ header-bytes + 4 * moves b + 8 * values b
 
 pub file-facts : (b : List ℕ) → is-run-file b ≡ true → FileFacts b
 unfolding is-run-file
@@ -56,12 +57,12 @@ file-facts b e = go (each-passes (file-tests b) (true-passes _ e))
         }
 
 -- a move from the numbers that were read at its place
-pub move-read : (b : List ℕ) (k process kind len : ℕ) → process ≡ number-at 1 b (28 + 4 * k)
-    → kind ≡ number-at 1 b (28 + 4 * k + 1) → len ≡ number-at 2 b (28 + 4 * k + 2)
+pub move-read : (b : List ℕ) (k process kind len : ℕ) → process ≡ number-at 1 b (header-bytes + 4 * k)
+    → kind ≡ number-at 1 b (header-bytes + 4 * k + 1) → len ≡ number-at 2 b (header-bytes + 4 * k + 2)
     → _≡_ {A = Written} (record { process = process; kind = kind; len = len }) (written b k)
 move-read b k process kind len p q l =
-    let e : process ≡ getD b (28 + 4 * k) 0 = omega arith in
-    let d : kind ≡ getD b (28 + 4 * k + 1) 0 = omega arith in
+    let e : process ≡ getD b (header-bytes + 4 * k) 0 = omega arith in
+    let d : kind ≡ getD b (header-bytes + 4 * k + 1) 0 = omega arith in
     rw (e, d, l)
 
 -- ---- lists of tests
@@ -85,74 +86,94 @@ all-joined [] k = refl
 all-joined (true ∷ l) k = all-joined l k
 all-joined (false ∷ l) k = refl
 
--- ---- N, C and the starting length, as the code has read them
+-- ---- the header as the code has read it
 
-module _ (b : List ℕ) (n c : ℕ) (the-n : n ≡ readers b) (the-c : c ≡ capacity b) where
-  pub no-readers : n < 1 → false ≡ all (size-tests b)
-  no-readers h = fails (size-tests b) 0 (lt-leb 1 (readers b) (omega arith))
+module _ (b : List ℕ) (h : Header) (head : h ≡ header-of b) where
+  the-n : h .n ≡ readers b
+  the-n = ap (λ z. z .n) head
 
-  pub many-readers : 8 < n → false ≡ all (size-tests b)
-  many-readers h = fails (size-tests b) 1 (lt-leb (readers b) 8 (omega arith))
+  the-c : h .c ≡ capacity b
+  the-c = ap (λ z. z .c) head
 
-  pub no-words : c < 1 → false ≡ all (size-tests b)
-  no-words h = fails (size-tests b) 2 (lt-leb 1 (capacity b) (omega arith))
+  the-starting : h .starting ≡ starting-length b
+  the-starting = ap (λ z. z .starting) head
 
-  pub many-words : 32 < c → false ≡ all (size-tests b)
-  many-words h = fails (size-tests b) 3 (lt-leb (capacity b) 32 (omega arith))
+  the-moves : h .moves ≡ moves b
+  the-moves = ap (λ z. z .moves) head
 
-  pub sizes-end : (s : ℕ) → s ≡ starting-length b → 1 ≤ n → n ≤ 8 → 1 ≤ c → c ≤ 32
-      → leb s c ≡ all (size-tests b)
-  sizes-end s the-s n1 n8 c1 c32 =
-      let same : leb s c ≡ leb (starting-length b) (capacity b) = rw (the-s, the-c) in
+  the-values : h .values ≡ values b
+  the-values = ap (λ z. z .values) head
+
+  -- N, C and the starting length
+  pub no-readers : h .n < 1 → false ≡ all (size-tests b)
+  no-readers l = fails (size-tests b) 0 (lt-leb 1 (readers b) (omega (arith, the-n)))
+
+  pub many-readers : 8 < h .n → false ≡ all (size-tests b)
+  many-readers l = fails (size-tests b) 1 (lt-leb (readers b) 8 (omega (arith, the-n)))
+
+  pub no-words : h .c < 1 → false ≡ all (size-tests b)
+  no-words l = fails (size-tests b) 2 (lt-leb 1 (capacity b) (omega (arith, the-c)))
+
+  pub many-words : 32 < h .c → false ≡ all (size-tests b)
+  many-words l = fails (size-tests b) 3 (lt-leb (capacity b) 32 (omega (arith, the-c)))
+
+  pub sizes-end : 1 ≤ h .n → h .n ≤ 8 → 1 ≤ h .c → h .c ≤ 32 → leb (h .starting) (h .c) ≡ all (size-tests b)
+  sizes-end n1 n8 c1 c32 =
+      let same : leb (h .starting) (h .c) ≡ leb (starting-length b) (capacity b) = rw (the-starting, the-c) in
       same
       ∙ last-decides (take 4 (size-tests b)) (leb (starting-length b) (capacity b))
-      (also (le-leb 1 (readers b) (omega arith)) (also (le-leb (readers b) 8 (omega arith))
-      (also (le-leb 1 (capacity b) (omega arith)) (also (le-leb (capacity b) 32 (omega arith)) none))))
+      (also (le-leb 1 (readers b) (omega (arith, the-n))) (also (le-leb (readers b) 8 (omega (arith, the-n)))
+      (also (le-leb 1 (capacity b) (omega (arith, the-c)))
+      (also (le-leb (capacity b) 32 (omega (arith, the-c))) none))))
 
--- ---- the moves, the values and their places, as the code has read them
+  -- the moves, the values and their places
+  pub many-moves : 4000 < h .moves → false ≡ all (part-tests b)
+  many-moves l = fails (part-tests b) 0 (lt-leb (moves b) 4000 (omega (arith, the-moves)))
 
-module _ (b : List ℕ) (m v : ℕ) (the-m : m ≡ moves b) (the-v : v ≡ values b) where
-  pub many-moves : 4000 < m → false ≡ all (part-tests b)
-  many-moves h = fails (part-tests b) 0 (lt-leb (moves b) 4000 (omega arith))
+  pub moves-misplaced : (h .«moves_at» ≡ header-bytes → ⊥) → false ≡ all (part-tests b)
+  moves-misplaced d =
+      fails (part-tests b) 1 (ne-eqb (moves-at b) header-bytes (λ z. d (ap (λ y. y .«moves_at») head ∙ z)))
 
-  pub moves-misplaced : (x : ℕ) → x ≡ moves-at b → (x ≡ 28 → ⊥) → false ≡ all (part-tests b)
-  moves-misplaced x e d = fails (part-tests b) 1 (ne-eqb (moves-at b) 28 (λ z. d (e ∙ z)))
+  pub many-values : 1000 < h .values → false ≡ all (part-tests b)
+  many-values l = fails (part-tests b) 2 (lt-leb (values b) 1000 (omega (arith, the-values)))
 
-  pub many-values : 1000 < v → false ≡ all (part-tests b)
-  many-values h = fails (part-tests b) 2 (lt-leb (values b) 1000 (omega arith))
+  pub not-recorded : h .values < h .starting → false ≡ all (part-tests b)
+  not-recorded l =
+      fails (part-tests b) 3 (lt-leb (starting-length b) (values b) (omega (arith, the-values, the-starting)))
 
-  pub not-recorded : (s : ℕ) → s ≡ starting-length b → v < s → false ≡ all (part-tests b)
-  not-recorded s e h = fails (part-tests b) 3 (lt-leb (starting-length b) (values b) (omega arith))
+  pub values-misplaced : (h .«values_at» ≡ header-bytes + 4 * h .moves → ⊥) → false ≡ all (part-tests b)
+  values-misplaced d =
+      fails (part-tests b) 4 (ne-eqb (values-at b) (header-bytes + 4 * moves b)
+      (λ z. d (omega (arith, z, the-moves, ap (λ y. y .«values_at») head))))
 
-  pub values-misplaced : (x : ℕ) → x ≡ values-at b → (x ≡ 28 + 4 * m → ⊥)
-      → false ≡ all (part-tests b)
-  values-misplaced x e d = fails (part-tests b) 4 (ne-eqb (values-at b) (28 + 4 * moves b) (λ z. d (omega arith)))
-
-  pub parts-end : (x s y : ℕ) → x ≡ moves-at b → s ≡ starting-length b → y ≡ values-at b → m ≤ 4000
-      → x ≡ 28 → v ≤ 1000 → s ≤ v → y ≡ 28 + 4 * m
-      → eqb (length b) (28 + 4 * m + 8 * v) ≡ all (part-tests b)
-  parts-end x s y the-x the-s the-y few placed some recorded behind =
-      let last = eqb (length b) (28 + 4 * moves b + 8 * values b) in
-      let same : eqb (length b) (28 + 4 * m + 8 * v) ≡ last = rw (the-m, the-v) in
+  pub parts-end : (k : ℕ) → k ≡ length b → h .moves ≤ 4000 → h .«moves_at» ≡ header-bytes → h .values ≤ 1000
+      → h .starting ≤ h .values → h .«values_at» ≡ header-bytes + 4 * h .moves
+      → eqb k (header-bytes + 4 * h .moves + 8 * h .values) ≡ all (part-tests b)
+  parts-end k many few placed some recorded behind =
+      let last = eqb (length b) (header-bytes + 4 * moves b + 8 * values b) in
+      let same : eqb k (header-bytes + 4 * h .moves + 8 * h .values) ≡ last = rw (many, the-moves, the-values) in
       same
       ∙ last-decides (take 5 (part-tests b)) last
-      (also (le-leb (moves b) 4000 (omega arith)) (also (eq-eqb (moves-at b) 28 (omega arith))
-      (also (le-leb (values b) 1000 (omega arith)) (also (le-leb (starting-length b) (values b) (omega arith))
-      (also (eq-eqb (values-at b) (28 + 4 * moves b) (omega arith)) none)))))
+      (also (le-leb (moves b) 4000 (omega (arith, the-moves)))
+      (also (eq-eqb (moves-at b) header-bytes (sym (ap (λ y. y .«moves_at») head) ∙ placed))
+      (also (le-leb (values b) 1000 (omega (arith, the-values)))
+      (also (le-leb (starting-length b) (values b) (omega (arith, the-values, the-starting)))
+      (also (eq-eqb (values-at b) (header-bytes + 4 * moves b)
+      (omega (arith, the-moves, ap (λ y. y .«values_at») head))) none)))))
 
 -- ---- the whole test
 
 module _ (b : List ℕ) where
-  in-three : is-run-file b ≡ leb 28 (length b) && (all (size-tests b) && all (part-tests b))
+  in-three : is-run-file b ≡ leb header-bytes (length b) && (all (size-tests b) && all (part-tests b))
   unfolding is-run-file
-  in-three = ap (λ x. leb 28 (length b) && x) (all-joined (size-tests b) (part-tests b))
+  in-three = ap (λ x. leb header-bytes (length b) && x) (all-joined (size-tests b) (part-tests b))
 
-  pub too-short : length b < 28 → false ≡ is-run-file b
-  too-short h = sym (rw (in-three, lt-leb 28 (length b) h))
+  pub too-short : length b < header-bytes → false ≡ is-run-file b
+  too-short h = sym (rw (in-three, lt-leb header-bytes (length b) h))
 
-  pub sizes-fail : (r : Bool) → 28 ≤ length b → r ≡ all (size-tests b) → r ≡ false → r ≡ is-run-file b
-  sizes-fail r h e f = f ∙ sym (rw (in-three, le-leb 28 (length b) h, ← e, f))
+  pub sizes-fail : (r : Bool) → header-bytes ≤ length b → r ≡ all (size-tests b) → r ≡ false → r ≡ is-run-file b
+  sizes-fail r h e f = f ∙ sym (rw (in-three, le-leb header-bytes (length b) h, ← e, f))
 
-  pub parts-decide : (s r : Bool) → 28 ≤ length b → s ≡ all (size-tests b) → s ≡ true
+  pub parts-decide : (s r : Bool) → header-bytes ≤ length b → s ≡ all (size-tests b) → s ≡ true
       → r ≡ all (part-tests b) → r ≡ is-run-file b
-  parts-decide s r h e t d = d ∙ sym (rw (in-three, le-leb 28 (length b) h, ← e, t))
+  parts-decide s r h e t d = d ∙ sym (rw (in-three, le-leb header-bytes (length b) h, ← e, t))

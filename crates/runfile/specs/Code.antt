@@ -4,18 +4,29 @@ use mathlib.Core.List.{List}
 use Prim.Native.Nat.{ℕ}
 use lib.ListN.{take, drop}
 use Rattle.register.specs.Steps.{read, step}
-use Rattle.runfile.specs.RunFile.{readers, capacity, starting-length, moves, values, file-tests}
+use Rattle.runfile.specs.RunFile.{readers, capacity, starting-length, moves, moves-at, values}
+use Rattle.runfile.specs.RunFile.{values-at, file-tests}
 use Rattle.runfile.specs.RunFile.{Written, Asked, nothing, values-for, move}
 use Rattle.runfile.specs.declared.types.Header.{Header}
 use Rattle.runfile.specs.declared.types.Written as code-written
 use Rattle.runfile.specs.declared.types.Asked as code-asked
 use Rattle.runfile.specs.declared.types.Asked.the-variants as variants
+use Rattle.runfile.specs.declared.types.Call as code-call
+use Rattle.runfile.specs.declared.types.Call.the-variants as calls
 
 -- ---- the header
 
 abbrev pub header-of : List ℕ → Header
 header-of b =
-    record { n = readers b; c = capacity b; starting = starting-length b; moves = moves b; values = values b }
+    record {
+      n = readers b;
+      c = capacity b;
+      starting = starting-length b;
+      moves = moves b;
+      «moves_at» = moves-at b;
+      values = values b;
+      «values_at» = values-at b;
+    }
 
 -- the tests of N, C and the starting length, which follow the test of the length
 abbrev pub size-tests : List ℕ → List Bool
@@ -30,8 +41,11 @@ part-tests b = drop 6 (file-tests b)
 abbrev pub as-written : code-written.Written → Written
 as-written w = record { process = w .process; kind = w .kind; len = w .len }
 
+abbrev pub as-call : code-call.Call → Asked
+as-call (calls.Values k) = values-for k
+as-call (calls.Read p) = move (read p)
+as-call (calls.Step p) = move (step p)
+
 abbrev pub as-asked : code-asked.Asked → Asked
 as-asked variants.Nothing = nothing
-as-asked (variants.Values k) = values-for k
-as-asked (variants.Read p) = move (read p)
-as-asked (variants.Step p) = move (step p)
+as-asked (variants.Call x) = as-call x

@@ -11,6 +11,9 @@ use Rattle.runfile.specs.Bytes.{number-at, words-at}
 
 -- ---- the header: seven 4-byte counts and offsets
 
+abbrev pub header-bytes : ℕ
+header-bytes = 28
+
 module _ (b : List ℕ) where
   abbrev pub readers : ℕ
   readers = number-at 4 b 0
@@ -33,22 +36,22 @@ module _ (b : List ℕ) where
   abbrev pub values-at : ℕ
   values-at = number-at 4 b 24
 
-  -- a whole header; N 1 to 8, C 1 to 32, I at most C; at most 4,000 moves, at 28; at most 1,000 values, I among them,
+  -- a whole header; N 1 to 8, C 1 to 32, I at most C; at most 4,000 moves, behind the header; at most 1,000 values, I among them,
   -- behind the moves; exactly so many bytes
   abbrev pub file-tests : List Bool
   file-tests =
-      leb 28 (length b)
+      leb header-bytes (length b)
       ∷ leb 1 readers
       ∷ leb readers 8
       ∷ leb 1 capacity
       ∷ leb capacity 32
       ∷ leb starting-length capacity
       ∷ leb moves 4000
-      ∷ eqb moves-at 28
+      ∷ eqb moves-at header-bytes
       ∷ leb values 1000
       ∷ leb starting-length values
-      ∷ eqb values-at (28 + 4 * moves)
-      ∷ eqb (length b) (28 + 4 * moves + 8 * values)
+      ∷ eqb values-at (header-bytes + 4 * moves)
+      ∷ eqb (length b) (header-bytes + 4 * moves + 8 * values)
       ∷ []
 
   -- anything else is 11
@@ -69,7 +72,7 @@ pub record Written : Type 0 where
 
 abbrev pub written : List ℕ → ℕ → Written
 written b k =
-    let i = 28 + 4 * k in
+    let i = header-bytes + 4 * k in
     record { process = getD b i 0; kind = getD b (i + 1) 0; len = number-at 2 b (i + 2) }
 
 -- what it asks for: nothing (it is malformed), a begin of a write with so many values, or a move that takes none

@@ -1,7 +1,10 @@
 // What a run file is, and the header, on any bytes.
 use crate::bytes::four_at;
 use crate::types::Header;
+ghost use mathlib.Core.List.{List};
 ghost use mathlib.Core.Path.{_≡_};
+ghost use Prim.Native.Nat.{ℕ};
+ghost use lib.ListN.{length as List·length};
 ghost use Rattle.register.specs.Area.{all};
 ghost use Rattle.runfile.specs.RunFile.{is-run-file};
 ghost use Rattle.runfile.specs.Code.{header-of, size-tests, part-tests};
@@ -10,66 +13,67 @@ ghost use Rattle.runfile.specs.Code.{header-of, size-tests, part-tests};
 pub fn is_run_file(file: &[u8]) -> bool
     ensures { λ r. ⌜ r ≡ is-run-file (now (file .entry)) ⌝ }
 {
-    if file.len() < 28 {
+    if file.len() < Header::BYTES {
         return false;
     }
-    sizes_pass(file) && parts_pass(file)
+    let h = header(file);
+    sizes_pass(h) && parts_pass(h, file.len())
 }
 
-// The counts that stand in a header.
+// The counts and offsets that stand in a header.
 pub fn header(file: &[u8]) -> Header
     ensures { λ r. ⌜ r ≡ header-of (now (file .entry)) ⌝ }
 {
     Header {
-        n: four_at(file, 0),
-        c: four_at(file, 4),
-        starting: four_at(file, 8),
-        moves: four_at(file, 12),
-        values: four_at(file, 20),
+        n: four_at(file, Header::READERS),
+        c: four_at(file, Header::CAPACITY),
+        starting: four_at(file, Header::STARTING),
+        moves: four_at(file, Header::MOVES),
+        moves_at: four_at(file, Header::MOVES_AT),
+        values: four_at(file, Header::VALUES),
+        values_at: four_at(file, Header::VALUES_AT),
     }
 }
 
-// Whether N, C and the starting length are in range.
-fn sizes_pass(file: &[u8]) -> bool
-    ensures { λ r. ⌜ r ≡ all (size-tests (now (file .entry))) ⌝ }
+// Whether N, C and the starting length of a file with this header are in range.
+fn sizes_pass(h: Header) -> bool
+    ensures { λ r. ⌜ ((b : List ℕ) → h ≡ header-of b → r ≡ all (size-tests b)) ⌝ }
 {
-    let n = four_at(file, 0);
-    let c = four_at(file, 4);
-    if n < 1 {
+    if h.n < 1 {
         return false;
     }
-    if 8 < n {
+    if 8 < h.n {
         return false;
     }
-    if c < 1 {
+    if h.c < 1 {
         return false;
     }
-    if 32 < c {
+    if 32 < h.c {
         return false;
     }
-    four_at(file, 8) <= c
+    h.starting <= h.c
 }
 
 // Whether the moves and the values are few enough, stand where they must and fill the file.
-fn parts_pass(file: &[u8]) -> bool
-    ensures { λ r. ⌜ r ≡ all (part-tests (now (file .entry))) ⌝ }
+fn parts_pass(h: Header, length: usize) -> bool
+    ensures { λ r. ⌜ ((b : List ℕ) → h ≡ header-of b → length ≡ List·length b → r ≡ all (part-tests b)) ⌝ }
 {
-    let moves = four_at(file, 12) as usize;
-    let values = four_at(file, 20) as usize;
+    let moves = h.moves as usize;
+    let values = h.values as usize;
     if 4000 < moves {
         return false;
     }
-    if four_at(file, 16) != 28 {
+    if h.moves_at as usize != Header::BYTES {
         return false;
     }
     if 1000 < values {
         return false;
     }
-    if values < four_at(file, 8) as usize {
+    if h.values < h.starting {
         return false;
     }
-    if four_at(file, 24) as usize != 28 + 4 * moves {
+    if h.values_at as usize != Header::BYTES + 4 * moves {
         return false;
     }
-    file.len() == 28 + 4 * moves + 8 * values
+    length == Header::BYTES + 4 * moves + 8 * values
 }

@@ -2,6 +2,8 @@
 use crate::bytes::one_at;
 use crate::bytes::two_at;
 use crate::types::Asked;
+use crate::types::Call;
+use crate::types::Header;
 use crate::types::Written;
 ghost use mathlib.Core.Path.{_≡_};
 ghost use Rattle.runfile.specs.RunFile.{written, asked};
@@ -11,7 +13,7 @@ ghost use Rattle.runfile.specs.Code.{as-written, as-asked};
 pub fn written_move(file: &[u8], k: u32) -> Written
     ensures { λ r. ⌜ as-written r ≡ written (now (file .entry)) k ⌝ }
 {
-    let at = 28 + 4 * (k as usize);
+    let at = Header::BYTES + 4 * (k as usize);
     Written {
         process: one_at(file, at) as u64,
         kind: one_at(file, at + 1) as u64,
@@ -25,10 +27,10 @@ pub fn asked(n: u64, process: u64, kind: u64, len: u64) -> Asked
 {
     if kind == 0 {
         if process == n {
-            return Asked::Values(len);
+            return Asked::Call(Call::Values(len));
         }
         if len == 0 {
-            return Asked::Read(process);
+            return Asked::Call(Call::Read(process));
         }
         return Asked::Nothing;
     }
@@ -38,5 +40,5 @@ pub fn asked(n: u64, process: u64, kind: u64, len: u64) -> Asked
     if len != 0 {
         return Asked::Nothing;
     }
-    Asked::Step(process)
+    Asked::Call(Call::Step(process))
 }

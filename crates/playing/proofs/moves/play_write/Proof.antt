@@ -2,6 +2,7 @@
 use borrow.Author.Needs.{needs}
 use native.Mathlib.Omega.{arith}
 use Rattle.runfile.specs.Bytes.{words-at}
+use Rattle.playing.specs.Code.{one-too-many}
 use Rattle.playing.proofs.Values.{place, front-length}
 use Rattle.playing.proofs.OneMove.{its-values, write-13, write-accepted, write-refused}
 use Rattle.playing.proofs.moves.play_write.Statement.{statement}
@@ -65,7 +66,7 @@ slice-aggregate-begin-write c =
     let b = c .before .before .before in
     let k = b .before .before .words-enough .result in
     let a = b .before .before .before .before .before .before .before .before .before .args in
-    front-length 257 k _ (words-at k (a .file .now) (place (a .file .now) (a .used))) (omega arith)
+    front-length one-too-many k _ (words-at k (a .file .now) (place (a .file .now) (a .used))) (omega arith)
     (b .take-values .ensures)
 
 begin-write-requires : tie.Need-begin-write-requires

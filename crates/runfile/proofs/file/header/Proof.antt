@@ -18,15 +18,24 @@ four-at-requires-4 c κs = search needs
 four-at-requires-5 : tie.Need-four-at-requires-5
 four-at-requires-5 c κs = search needs
 
+four-at-requires-6 : tie.Need-four-at-requires-6
+four-at-requires-6 c κs = search needs
+
+four-at-requires-7 : tie.Need-four-at-requires-7
+four-at-requires-7 c κs = search needs
+
 returns : tie.Need-returns
 returns c =
     let d = c .before .before in
+    let e = d .before .before in
     simp (
-      c .four-at5 .ensures,
-      c .before .four-at4 .ensures,
-      d .four-at3 .ensures,
-      d .before .four-at2 .ensures,
-      d .before .before .four-at .ensures,
+      c .four-at7 .ensures,
+      c .before .four-at6 .ensures,
+      d .four-at5 .ensures,
+      d .before .four-at4 .ensures,
+      e .four-at3 .ensures,
+      e .before .four-at2 .ensures,
+      e .before .before .four-at .ensures,
     )
 
 pub header-spec : {M : Type 1} → statement M
@@ -38,4 +47,6 @@ header-spec =
     four-at-requires-3
     four-at-requires-4
     four-at-requires-5
+    four-at-requires-6
+    four-at-requires-7
     returns)

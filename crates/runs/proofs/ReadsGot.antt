@@ -20,8 +20,8 @@ use Rattle.register.proofs.Tests.{if-true}
 use Rattle.register.proofs.Intact.{keeps}
 use Rattle.runfile.specs.Bytes.{words-at}
 use Rattle.runfile.specs.RunFile.{readers, values, values-at, Written, Asked, nothing, values-for, move, asked}
 use Rattle.playing.specs.Play.{State, answer-of, call-of}
-use Rattle.playing.specs.Promise.{read-got}
+use Rattle.runs.specs.Promise.{read-got}
 
 -- ---- what the events of a run say that reads got
 

@@ -25,14 +25,14 @@ use Rattle.runfile.specs.Bytes.{words-at}
 use Rattle.runfile.specs.RunFile.{readers, capacity, moves, values, values-at, starting-record, is-run-file}
 use Rattle.runfile.specs.RunFile.{written, Asked, nothing, values-for, move, asked}
 use Rattle.tally.specs.Tally.{no-tally}
 use Rattle.playing.specs.Play.{State, answer-of, played, next, answers, state-after, first-state, run-state}
 use Rattle.playing.specs.Play.{run-answers, run-tally}
 use Rattle.playing.specs.Play.{call-of, accepted-call, accepted-calls}
-use Rattle.playing.specs.Promise.{answers-to, accepted-only, greatest-age, read-got, reads-got, PlaysARun}
-use Rattle.playing.proofs.ReadsGot.{gots, told-gots, events-joined, same-readers, move-gots}
-use Rattle.playing.proofs.ReadCosts.{costs, paid, reads-cost}
-use Rattle.playing.proofs.Tallies.{Adds, adds, answers-length, answers-to-length}
+use Rattle.runs.specs.Promise.{answers-to, accepted-only, greatest-age, read-got, reads-got, PlaysARun}
+use Rattle.runs.proofs.ReadsGot.{gots, told-gots, events-joined, same-readers, move-gots}
+use Rattle.runs.proofs.ReadCosts.{costs, paid, reads-cost}
+use Rattle.runs.proofs.Tallies.{Adds, adds, answers-length, answers-to-length}
 use Rattle.playing.proofs.Starting.{short, in-range, well, started}
 
 -- ---- one move
 

@@ -22,7 +22,7 @@ use Rattle.register.proofs.Moves.{Does, desk-record}
 use Rattle.register.proofs.Moves as moves
 use Rattle.register.proofs.Called.{Opened, opened, does, after-head, after-memory}
 use Rattle.register.proofs.Observed.{observed}
-use Rattle.playing.proofs.ReadsGot.{got-of, gots}
+use Rattle.runs.proofs.ReadsGot.{got-of, gots}
 
 -- what a finished read costs
 abbrev pub costs : List Got → ℕ

@@ -10,8 +10,8 @@ use Rattle.register.specs.Steps.{Move}
 use Rattle.register.specs.Calls.{Answer, answered}
 use Rattle.runfile.specs.RunFile.{written}
 use Rattle.tally.specs.Tally.{Tally, counted}
 use Rattle.playing.specs.Play.{State, next, answers, tally-of}
-use Rattle.playing.specs.Promise.{answers-to, accepted-only, greatest-age}
+use Rattle.runs.specs.Promise.{answers-to, accepted-only, greatest-age}
 
 -- what a list of answers adds to a tally
 pub record Adds (t u : Tally) (l : List Answer) : Type 0 where
