@@ -17,7 +17,7 @@ use Prim.Native.Nat.{ℕ, _<_}
 use native.Mathlib.Omega.{arith}
 use lib.Dec.{lit<}
 use lib.ListN.{length, getD}
-use Rattle.register.proofs.Facts.{AreaFacts, area-facts, same-area, its-plan, whole-area, sound-area}
+use Rattle.register.proofs.Facts.{AreaFacts, area-facts, its-plan, whole-area, sound-area}
 use Rattle.register.specs.Place.{Store, apply}
 use Rattle.register.specs.Table.{total, view, store}
 use Rattle.register.specs.Area.{form1, readers, capacity, table, is-area}
@@ -32,6 +32,23 @@ use Rattle.atomic.proofs.Moves.{Does, by}
 use Rattle.register.specs.Conditions.{Whole}
 use Rattle.atomic.proofs.Stays.{stays-whole}
 use Rattle.atomic.proofs.Planned.{Outcome, seen, plan-does}
+
+-- an area with the same head and length is one too
+pub same-area : (a b : List ℕ) → length b ≡ length a → ((i : ℕ) → i < 7 → getD b i 0 ≡ getD a i 0)
+    → is-area b ≡ is-area a
+unfolding is-area
+same-area a b l head =
+    rw (
+      l,
+      head 0 (lit< tt),
+      head 1 (lit< tt),
+      head 2 (lit< tt),
+      head 3 (lit< tt),
+      head 4 (lit< tt),
+      head 5
+          (lit< tt),
+      head 6 (lit< tt),
+    )
 
 -- ---- a refusal
 

@@ -1,26 +1,27 @@
 -- The tests of document 01 as facts, both ways: what passes is what `Conditions` says.
 --     range-is, area-is, undamaged-is, own-is    a test passes exactly if its facts hold
+--     area-facts, whole-area, sound-area         the same one way, as it is mostly used
+--     its-plan, number-of                        the plan of a call, and the number that a plan gives
 -- Assumes nothing.
 use mathlib.Core.Path.{_≡_, refl, sym, subst₂}
 use mathlib.Core.Logic.{_↔_}
 use mathlib.Core.Bool.{true}
 use mathlib.Core.List.{List}
-use Prim.Native.Nat.{ℕ, _<_}
+use Prim.Native.Nat.{ℕ}
 use native.Mathlib.Omega.{arith}
-use lib.Dec.{T, eqb, eqb→eq, leb→le, le→leb, ltb→lt, lt→ltb, lit<}
-use lib.ListN.{length, getD}
+use lib.Dec.{T, eqb, eqb→eq, leb→le, le→leb, ltb→lt, lt→ltb}
+use lib.ListN.{length}
 use borrow.Author.Tests.{eq-eqb}
 use Rattle.register.specs.Table.{total}
-use Rattle.register.specs.Area.{slots-at, desks-at, writer-at, range-tests, in-range, readers, capacity, table, area-tests, is-area, undamaged, memory, all, memory-tests}
+use Rattle.register.specs.Area.{slots-at, desks-at, writer-at, range-tests, in-range, readers, capacity}
+use Rattle.register.specs.Area.{table, area-tests, is-area, undamaged, memory, all, memory-tests}
 use Rattle.register.specs.Conditions.{InRange, word, AnArea, Undamaged, Whole}
-use Rattle.register.specs.Steps
 use Rattle.register.specs.Calls.{own-tests, is-own}
 use Rattle.register.specs.Numbers.{writer, Finished}
 use Rattle.register.specs.Lists.{Each, none, also}
 use Rattle.register.proofs.Tests.{passed, true-passes, each-passes, all-pass}
 use Rattle.register.specs.Steps.{Plan, refuse, accept, Move, plan}
 use Rattle.register.proofs.Whole.{whole-of, of-whole}
-use Rattle.register.specs.Steps
 
 -- ---- test 1 as facts
 
@@ -33,38 +34,8 @@ range-facts n c t = go (each-passes (range-tests n c) t)
           some-readers = leb→le _ _ a;
           few-readers = leb→le _ _ b;
           some-words = leb→le _ _ d;
-          few-words =
-              leb→le _ _ e;
+          few-words = leb→le _ _ e;
         }
-
-pub record AreaFacts (a : List ℕ) : Type 0 where
-  pub range : InRange (readers a) (capacity a)
-  pub exact : length a ≡ total (table a)
-
-pub area-facts : (a : List ℕ) → is-area a ≡ true → AreaFacts a
-unfolding is-area
-area-facts a e = go (each-passes (area-tests a) (true-passes _ e))
-  where
-    go : Each T (area-tests a) → AreaFacts a
-    go (also x (also f (also r (also t (also s (also d (also w (also l none)))))))) =
-        record { range = range-facts (readers a) (capacity a) r; exact = eqb→eq _ _ l }
-
--- an area with the same head and length is one too
-pub same-area : (a b : List ℕ) → length b ≡ length a → ((i : ℕ) → i < 7 → getD b i 0 ≡ getD a i 0)
-    → is-area b ≡ is-area a
-unfolding is-area
-same-area a b l head =
-    rw (
-      l,
-      head 0 (lit< tt),
-      head 1 (lit< tt),
-      head 2 (lit< tt),
-      head 3 (lit< tt),
-      head 4 (lit< tt),
-      head 5
-          (lit< tt),
-      head 6 (lit< tt),
-    )
 
 pub whole-area : (a : List ℕ) → undamaged a ≡ true → Whole (readers a) (capacity a) (memory a)
 unfolding undamaged
@@ -138,6 +109,14 @@ area-is a = (λ e. there (each-passes (area-tests a) (true-passes _ e)), λ v. p
         (also (same _ _ total-is)
         (also (same _ _ slots-are)
         (also (same _ _ desks-are) (also (same _ _ writer-is) (also (same _ _ length-is) none)))))))
+
+-- what a layout needs of it, by the table
+pub record AreaFacts (a : List ℕ) : Type 0 where
+  pub range : InRange (readers a) (capacity a)
+  pub exact : length a ≡ total (table a)
+
+pub area-facts : (a : List ℕ) → is-area a ≡ true → AreaFacts a
+area-facts a e = let v = area-is a .0 e in record { range = v .range; exact = omega (arith, v .exact) }
 
 pub undamaged-is : (a : List ℕ) → (undamaged a ≡ true) ↔ Undamaged a
 undamaged-is a = (whole-area a, sound-area a (readers a) (capacity a) refl refl)

@@ -7,7 +7,7 @@ pub mod Places
 pub mod Tables
 pub mod Whole
 pub mod Form1
-mod Rows
+pub mod Rows
 pub mod Facts
 pub mod Numbers
 pub mod Stands
