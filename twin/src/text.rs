@@ -179,8 +179,9 @@ fn add_move<'a>(
 /// So many steps of a process; the repeat is written `x8`.
 fn add_steps(script: &mut Script, line: &Line, process: &str, repeat: &str) -> Result<(), BadLine> {
     let process = line.byte(process, "a process")?;
-    let Some(times) = repeat.strip_prefix('x') else {
-        return line.bad(format!("a repeat is written `x8`, not `{repeat}`"));
+    let times = match repeat.strip_prefix('x') {
+        Some(times) => times,
+        None => return line.bad(format!("a repeat is written `x8`, not `{repeat}`")),
     };
     let times = line.number(times, "a repeat", MOST_MOVES)?;
     if times == 0 {
