@@ -195,6 +195,10 @@ leaves-nothing-out u =
       published = whole .published-ones;
       ended = whole .ended-ones;
       latest = latest (run-ends-good u .dated .ends);
+      now-began = whole .began;
+      now-steps = whole .steps-made;
+      now-looks = whole .looks-made;
+      now-given = whole .given;
     }
   where
     t : ℕ

@@ -206,7 +206,7 @@ module _ (n : ℕ) where
         counts =
             hand-filled (v .counts) (λ s. apply m (clears-start m) (r-start s)) (λ s. m (r-end s)) 5 (omega arith)
             (omega arith) (omega arith) (omega arith) (λ y. absurd (omega arith))
-            (λ s d. miss s (m in-hand) d 0 (m (r-start s))) (λ s d. refl);
+            (λ s d. miss s (m in-hand) d _ (m (r-start s))) (λ s d. refl);
       }
 
   cleared : (m : Memory) → m writer-phase ≡ 5 → Counted m → Counted (apply m (clears-end m))
@@ -216,7 +216,7 @@ module _ (n : ℕ) where
         lasts = v .lasts;
         counts = hand-filled (v .counts) (λ s. m (r-start s)) (λ s. apply m (clears-end m) (r-end s)) 6 (omega arith)
             (omega arith) (omega arith) (omega arith) (λ y. hit (m in-hand) 0 (m (r-end (m in-hand)))) (λ s d. refl)
-            (λ s d. miss s (m in-hand) d 0 (m (r-end s)));
+            (λ s d. miss s (m in-hand) d _ (m (r-end s)));
       }
 
   -- writer step 7

@@ -23,8 +23,9 @@ use borrow.Author.Tests.{eq-eqb, ne-eqb}
 use Rattle.register.specs.Place.{Record}
 use Rattle.atomic.specs.History.{Deed, read-began, write-began, went-on, looked, published}
 use Rattle.atomic.specs.History.{read-ended, write-ended, Read, Write, History}
-use Rattle.atomic.specs.History.{changed-at, closed, the-write, noted, nothing-yet}
+use Rattle.atomic.specs.History.{closed, the-write, noted, nothing-yet}
 use Rattle.atomic.specs.Demands.{record-of}
+use Rattle.register.proofs.Tests.{if-true}
 
 -- ---- placed, apart and sound; lists of reads and of writes are newest first
 
@@ -216,19 +217,13 @@ sound-noted first total h p write-ended b l needs s =
       reads = all-closed (h .moves) (suc (h .steps p)) (reads-on s);
     }
 
-began-now-noted : (h : History) (p : ℕ) → ((q : ℕ) → h .began q ≤ h .moves) → (q : ℕ)
-    → changed-at (h .began) p (h .moves) q ≤ suc (h .moves)
-began-now-noted h p b q = by-test (eqb q p)
-  where
-    by-test : (test : Bool) → cond test (h .moves) (h .began q) ≤ suc (h .moves)
-    by-test true = omega arith
-    by-test false = omega (arith, b q)
-
 -- no operation began later than now, and so it is after one more move
 pub began-noted : (total : ℕ) (h : History) (p : ℕ) (deed : Deed) → ((q : ℕ) → h .began q ≤ h .moves)
     → (q : ℕ) → noted total h p deed .began q ≤ noted total h p deed .moves
-began-noted total h p read-began b q = began-now-noted h p b q
-began-noted total h p (write-began v) b q = began-now-noted h p b q
+began-noted total h p read-began b q =
+    if-true (λ k. k ≤ suc (h .moves)) (eqb q p) _ (h .began q) (λ e. omega arith) (λ e. omega (arith, b q))
+began-noted total h p (write-began v) b q =
+    if-true (λ k. k ≤ suc (h .moves)) (eqb q p) _ (h .began q) (λ e. omega arith) (λ e. omega (arith, b q))
 began-noted total h p (went-on k) b q = omega (arith, b q)
 began-noted total h p looked b q = omega (arith, b q)
 began-noted total h p (published ended) b q = omega (arith, b q)

@@ -21,8 +21,7 @@ pub record Moment : Type 0 where
   pub area : List ℕ
   pub move : Move
 
--- the moves from an area on, newest first, in front of those of the past. The number of a move is how many stand behind
--- it
+-- the moves from an area on, newest first, in front of those of the past; as many stand behind a move as its number
 abbrev pub trail : List Moment → List ℕ → List Move → List Moment
 trail past a [] = past
 trail past a (x ∷ l) = trail (record { area = a; move = x } ∷ past) (answered a x .area) l
@@ -155,6 +154,11 @@ pub record Complete (u : Run) : Type 0 where
   pub ended : map end-of (ended-only (length (u .moves)) (told u .writes)) ≡ told-of ends-write end-told (moves-of u)
   -- of a write that has not ended, `end` is the number of all moves
   pub latest : Each (λ w. w .end ≤ length (u .moves)) (told u .writes)
+  -- of operations under way: their begins, their own steps, the looks and the record of the write
+  pub now-began : (p : ℕ) → told u .began p ≡ begun-at p (moves-of u)
+  pub now-steps : (p : ℕ) → told u .steps p ≡ since p (steps p) (moves-of u)
+  pub now-looks : told u .looks ≡ since (u .n) (leaves-phase 1) (moves-of u)
+  pub now-given : told u .given ≡ handed (moves-of u)
 
 abbrev pub LeavesNothingOut : Type 0
 LeavesNothingOut = (u : Run) → Complete u
