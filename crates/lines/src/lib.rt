@@ -108,14 +108,23 @@ pub fn put_last(out: &mut [u8], at: usize, area: &[u64], t: Tally) -> usize
     ensures { λ r. ⌜ sheet (now (out .exit)) r
         ≡ Sheet·put (sheet (now (out .entry)) at) (last-line (now (area .entry)) (as-tally t)) ⌝ }
 {
-    put_line(out, at, b"end", &[current_word(area), t.accepted, t.refusals, t.greatest])
+    put_line(
+        out,
+        at,
+        b"end",
+        &[current_word(area), t.accepted, t.refusals, t.greatest],
+    )
 }
 
 // The current word.
 fn current_word(area: &[u64]) -> u64
     ensures { λ r. ⌜ r ≡ memory (now (area .entry)) current ⌝ }
 {
-    if Layout::CURRENT < area.len() { area[Layout::CURRENT] } else { 0 }
+    if Layout::CURRENT < area.len() {
+        area[Layout::CURRENT]
+    } else {
+        0
+    }
 }
 
 // The one line of a file that is no run file.
