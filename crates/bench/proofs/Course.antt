@@ -1,7 +1,7 @@
 -- A run as the code goes through it, move by move: what is left of its text makes what all of it makes.
 -- Assumes nothing.
 use mathlib.Core.Path.{_≡_, refl, sym, ap, _∙_}
-use mathlib.Core.List.{List, _++_, append-assoc}
+use mathlib.Core.List.{List, [], _∷_, _++_, append-assoc}
 use mathlib.Core.Bool.{Bool, true, false}
 use Prim.Native.Nat.{ℕ, suc, _+_, _≤_, _<_}
 use native.Mathlib.Nat.{zero-add}
@@ -9,15 +9,21 @@ use native.Mathlib.Numerals.{add-one}
 use native.Mathlib.Omega.{arith}
 use lib.Dec.{eqb}
 use lib.ListN.{length}
-use Rattle.runfile.specs.RunFile.{readers, moves, starting-length, is-run-file, written}
-use Rattle.runfile.specs.Code.{as-written}
+use types.Run.{OneOf}
+use denote.Enum.Declared.{tagOf}
+use Rattle.runfile.specs.RunFile.{readers, moves, starting-length, is-run-file, written, Asked, nothing, asked}
+use Rattle.runfile.specs.Code.{as-written, as-call, as-asked}
+use Rattle.runfile.specs.declared.types.Call.{Call}
+use Rattle.runfile.specs.declared.types.Asked.{Asked as CodeAsked}
+use Rattle.runfile.specs.declared.types.Asked.the-variants as variants
+use Rattle.runfile.proofs.types.Asked as asked-type
 use Rattle.runfile.specs.declared.types.Written.{Written as CodeWritten}
 use Rattle.text.specs.Sheet.{Sheet, sheet, put}
 use Rattle.text.proofs.Sheets.{put-twice, then-put}
 use Rattle.tally.specs.Tally.{Tally, no-tally, counted, as-tally, Room}
-use Rattle.playing.specs.Play.{State, played, next, first-state}
-use Rattle.bench.specs.Printed.{answer-line, move-line, first-line, last-line, run-text}
-use Rattle.bench.specs.Printed.{refused-text, printed}
+use Rattle.playing.specs.Play.{State, outcome, played, next, first-state}
+use Rattle.lines.specs.OneLine.{answer-line, first-line, last-line, refused-text}
+use Rattle.bench.specs.Printed.{move-line, run-text, printed}
 use Rattle.bench.specs.Code.{Course, as-course, course-after, lines-from}
 use Rattle.playing.specs.Code.{as-outcome, state}
 use Rattle.playing.specs.declared.types.Played.{Played}
@@ -25,26 +31,67 @@ use Rattle.bench.specs.declared.types.Progress.{Progress}
 
 -- ---- one move
 
+-- what is no call is malformed, by its tag
+asks-nothing : (y : CodeAsked) → OneOf (0 ∷ []) (tagOf asked-type.the-type y) → nothing ≡ as-asked y
+asks-nothing variants.Nothing e = refl
+asks-nothing (variants.Call x) e = absurd (omega arith)
+
+-- what was decoded is what the definition asks for
+decoded : (b : List ℕ) (s : State) (i n : ℕ) (w : CodeWritten) (y : Asked) → n ≡ readers b
+    → as-written w ≡ written b i
+    → y ≡ asked n (as-written w)
+    → outcome b s y ≡ played b s (written b i)
+unfolding played
+decoded b s i n w y e d f =
+    ap (outcome b s) (f ∙ ap (λ k. asked k (as-written w)) e ∙ ap (asked (readers b)) d)
+
 course-of : {s s′ : State} {t t′ : Tally} (p p′ : _) → s ≡ s′ → p ≡ p′ → t ≡ t′
     → _≡_ {A = Course} (record { state = s; text = p; tally = t })
     (record { state = s′; text = p′; tally = t′ })
 course-of p p′ e f g = rw (e, f, g)
 
-pub moved-on : (b : List ℕ) (i : ℕ) (a out a′ out′ : List ℕ) (g r : Progress) (n : ℕ) (w : CodeWritten)
-    (x : Played)
-    → n ≡ readers b → as-written w ≡ written b i
-    → as-outcome x a′ ≡ played b (state a (g .used)) (written b i)
-    → sheet out′ (r .end) ≡ put (sheet out (g .end))
-    (answer-line n i (as-written w) (as-outcome x a′ .answer))
-    → r .used ≡ x .used → as-tally (r .tally) ≡ counted (as-tally (g .tally)) (x .number) (x .age)
-    → as-course a′ out′ r ≡ course-after b i (as-course a out g)
-moved-on b i a out a′ out′ g r n w x e-n e-w e-x e-text e-used e-tally =
-    course-of _ _
-    (ap (state a′) e-used ∙ ap (λ o. state (o .answer .area) (o .used)) e-x)
-    (e-text ∙ ap (λ m. put (sheet out (g .end)) (answer-line m i (as-written w) (as-outcome x a′ .answer))) e-n
-    ∙ ap (λ v. put (sheet out (g .end)) (answer-line (readers b) i v (as-outcome x a′ .answer))) e-w
-    ∙ ap (λ o. put (sheet out (g .end)) (answer-line (readers b) i (written b i) (o .answer))) e-x)
-    (e-tally ∙ ap (λ o. counted (as-tally (g .tally)) (o .answer .number) (o .answer .age)) e-x)
+module _ (b : List ℕ) (i : ℕ) (a out a′ out′ : List ℕ) (g r : Progress) (n : ℕ) (w : CodeWritten) (m : CodeAsked)
+    (the-n : n ≡ readers b) (the-move : as-written w ≡ written b i)
+    (decoding : as-asked m ≡ asked n (as-written w)) where
+  -- one move more, where y is what it asks for and x what it came to
+  moved-on : (y : Asked) (x : Played) → y ≡ as-asked m
+      → as-outcome x a′ ≡ outcome b (state a (g .used)) y
+      → sheet out′ (r .end) ≡ put (sheet out (g .end))
+      (answer-line n i (as-written w) (as-outcome x a′ .answer))
+      → r .used ≡ x .used → as-tally (r .tally) ≡ counted (as-tally (g .tally)) (x .number) (x .age)
+      → as-course a′ out′ r ≡ course-after b i (as-course a out g)
+  moved-on y x e-y e-outcome e-text e-used e-tally =
+      let e-x = e-outcome ∙ decoded b (state a (g .used)) i n w y the-n the-move (e-y ∙ decoding) in
+      course-of _ _
+      (ap (state a′) e-used ∙ ap (λ o. state (o .answer .area) (o .used)) e-x)
+      (e-text ∙ ap (λ k. put (sheet out (g .end)) (answer-line k i (as-written w) (as-outcome x a′ .answer))) the-n
+      ∙ ap (λ v. put (sheet out (g .end)) (answer-line (readers b) i v (as-outcome x a′ .answer))) the-move
+      ∙ ap (λ o. put (sheet out (g .end)) (answer-line (readers b) i (written b i) (o .answer))) e-x)
+      (e-tally ∙ ap (λ o. counted (as-tally (g .tally)) (o .answer .number) (o .answer .age)) e-x)
+
+  -- a call is played
+  pub call-on : (call : Call) (x : Played) → m ≡ variants.Call call
+      → as-outcome x a′ ≡ outcome b (state a (g .used)) (as-call call)
+      → sheet out′ (r .end) ≡ put (sheet out (g .end))
+      (answer-line n i (as-written w) (as-outcome x a′ .answer))
+      → r .used ≡ x .used → as-tally (r .tally) ≡ counted (as-tally (g .tally)) (x .number) (x .age)
+      → as-course a′ out′ r ≡ course-after b i (as-course a out g)
+  call-on call x e = moved-on (as-call call) x (ap as-asked (sym e))
+
+  -- what is no call is refused by 12, and uses up nothing
+  pub malformed-on : (x : Played) → x ≡ record { number = 12; ended = false; age = 0; used = g .used }
+      → OneOf (0 ∷ []) (tagOf asked-type.the-type m) → a′ ≡ a
+      → sheet out′ (r .end) ≡ put (sheet out (g .end))
+      (answer-line n i (as-written w) (as-outcome x a′ .answer))
+      → r .used ≡ x .used → as-tally (r .tally) ≡ counted (as-tally (g .tally)) (x .number) (x .age)
+      → as-course a′ out′ r ≡ course-after b i (as-course a out g)
+  malformed-on x e tag same =
+      moved-on nothing x (asks-nothing m tag)
+      (ap (λ z. as-outcome z a′) e ∙ ap (λ l. as-outcome (refusal (g .used)) l) same
+      ∙ ap (λ u. as-outcome (refusal u) a) (omega arith))
+    where
+      refusal : ℕ → Played
+      refusal u = record { number = 12; ended = false; age = 0; used = u }
 
 -- no count grows by more than one
 counted-up : (t : Tally) (number age : ℕ)

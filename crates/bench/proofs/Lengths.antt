@@ -1,4 +1,4 @@
--- How long the text is: every run's is shorter than 290,000 bytes. Assumes nothing.
+-- How long the text is: every file's is shorter than the bytes that are lent for it. Assumes nothing.
 use mathlib.Core.Path.{_≡_, ap, _∙_}
 use mathlib.Core.Bool.{Bool, true, false, cond, _&&_}
 use mathlib.Core.List.{List, [], _∷_, _++_, map}
@@ -18,11 +18,13 @@ use Rattle.text.specs.Sheet.{sheet, put}
 use Rattle.text.proofs.Filling.{put-whole}
 use Rattle.tally.specs.Tally.{Tally}
 use Rattle.playing.specs.Play.{State, played, next, first-state, run-state, run-tally}
-use Rattle.playing.specs.Promise.{read-got, reads-got}
-use Rattle.playing.proofs.ReadCosts.{costs, costs-joined}
-use Rattle.playing.proofs.Runs.{few-words-read}
-use Rattle.bench.specs.Printed.{letter, one-if, read-fields, answer-line, move-line, move-lines, first-line}
-use Rattle.bench.specs.Printed.{last-line, run-text, refused-text, printed}
+use Rattle.runs.specs.Promise.{read-got, reads-got}
+use Rattle.runs.proofs.ReadCosts.{costs, costs-joined}
+use Rattle.runs.proofs.Runs.{few-words-read}
+use Rattle.lines.specs.OneLine.{letter, one-if, read-fields, answer-line, run-word, end-word, refused-word}
+use Rattle.lines.specs.OneLine.{first-line, last-line, refused-text}
+use Rattle.bench.specs.Printed.{move-line, move-lines, run-text, printed}
+use Rattle.bench.specs.Sizes.{text-bytes}
 
 -- ---- numbers
 
@@ -146,7 +148,7 @@ first-length b =
     let m = decimal (moves b) in
     omega (
       arith,
-      line-length (114 ∷ 117 ∷ 110 ∷ []) (n ∷ c ∷ m ∷ []),
+      line-length run-word (n ∷ c ∷ m ∷ []),
       field-length n (c ∷ m ∷ []),
       field-length c (m ∷ []),
       field-length m [],
@@ -163,7 +165,7 @@ last-length a t =
     let g = decimal (t .greatest) in
     omega (
       arith,
-      line-length (101 ∷ 110 ∷ 100 ∷ []) (w ∷ y ∷ z ∷ g ∷ []),
+      line-length end-word (w ∷ y ∷ z ∷ g ∷ []),
       field-length w
           (y ∷ z ∷ g ∷ []),
       field-length y (z ∷ g ∷ []),
@@ -175,7 +177,7 @@ last-length a t =
       decimal-length (t .greatest),
     )
 
-run-length : (b : List ℕ) → is-run-file b ≡ true → length (run-text b) < 290000
+run-length : (b : List ℕ) → is-run-file b ≡ true → length (run-text b) < text-bytes
 unfolding run-text
 run-length b e =
     let few = file-facts b e .few-moves in
@@ -191,22 +193,22 @@ run-length b e =
       few-words-read b e,
     )
 
-refused-length : length refused-text < 290000
+refused-length : length refused-text < text-bytes
 refused-length =
     omega (
       arith,
-      line-length (114 ∷ 101 ∷ 102 ∷ 117 ∷ 115 ∷ 101 ∷ 100 ∷ []) (decimal 11 ∷ []),
+      line-length refused-word (decimal 11 ∷ []),
       field-length (decimal 11) [],
       decimal-length 11,
     )
 
 -- so many bytes hold the text of any file
-pub text-length : (b : List ℕ) → length (printed b) < 290000
+pub text-length : (b : List ℕ) → length (printed b) < text-bytes
 unfolding printed
-text-length b = if-true (λ (t : Text). length t < 290000) (is-run-file b) (run-text b) refused-text (run-length b)
+text-length b = if-true (λ (t : Text). length t < text-bytes) (is-run-file b) (run-text b) refused-text (run-length b)
     (λ e. refused-length)
 
 pub text-whole : (b out : List ℕ) {out′ : List ℕ} {end : ℕ}
     → sheet out′ end ≡ put (sheet out 0) (printed b)
-    → 290000 ≤ length out → take end out′ ≡ printed b
+    → text-bytes ≤ length out → take end out′ ≡ printed b
 text-whole b out e h = put-whole out (printed b) e (omega (arith, text-length b))

@@ -15,9 +15,10 @@ use Rattle.runfile.specs.RunFile.{readers, capacity, is-run-file}
 use Rattle.runfile.specs.Code.{header-of}
 use Rattle.runfile.specs.declared.types.Header.{Header}
 use Rattle.runfile.proofs.Files.{file-facts}
+use Rattle.bench.specs.Sizes.{area-words}
 
 -- the largest area of a run: N = 8 and C = 32
-room-for-all : (n c : ℕ) → n ≤ 8 → c ≤ 32 → total (form1 n c) ≤ 711
+room-for-all : (n c : ℕ) → n ≤ 8 → c ≤ 32 → total (form1 n c) ≤ area-words
 room-for-all n c few short =
     let more : n + 2 ≤ 10 = omega arith in
     let slot : 4 + c ≤ 36 = omega arith in
@@ -33,14 +34,14 @@ module _ (b : List ℕ) (e : is-run-file b ≡ true) (h : Header) (head : h ≡ 
       (omega (arith, ap (λ z. z .n) head, facts .few-readers), omega (arith, ap (λ z. z .c) head, facts .few-words))
 
   module _ (p : Layout) (laid : p ≡ layout-of (h .n) (h .c)) (space : List ℕ)
-      (enough : 711 ≤ length space) where
+      (enough : area-words ≤ length space) where
     its-total : p .total ≡ total (form1 (readers b) (capacity b))
     its-total = ap (λ z. z .total) laid ∙ ap (λ z. total (form1 (z .n) (z .c))) head
 
     pub inside : p .total ≤ length space
     inside =
         let facts = file-facts b e in
-        le-trans (subst (λ k. k ≤ 711) (sym its-total)
+        le-trans (subst (λ k. k ≤ area-words) (sym its-total)
         (room-for-all (readers b) (capacity b) (facts .few-readers) (facts .few-words))) enough
 
     pub front-exact : p .total ≡ length (take (p .total) space)

@@ -3,7 +3,8 @@ use mathlib.Core.List.{List, _++_}
 use Prim.Native.Nat.{ℕ}
 use Rattle.playing.specs.Play.{State, played, next, answers, state-after, tally-of}
 use Rattle.playing.specs.Code.{state}
-use Rattle.bench.specs.Printed.{move-line, move-lines, last-line}
+use Rattle.lines.specs.OneLine.{last-line}
+use Rattle.bench.specs.Printed.{move-line, move-lines}
 use Rattle.runfile.specs.RunFile.{written}
 use Rattle.text.specs.Lines.{Text}
 use Rattle.text.specs.Sheet.{Sheet, sheet, put}

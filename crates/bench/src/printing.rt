@@ -1,15 +1,17 @@
 // The text of a run file's run, put into lent bytes. Any bytes are taken as a file.
-use crate::lines::put_first;
-use crate::lines::put_last;
-use crate::lines::put_move;
-use crate::lines::put_refused;
 use crate::sizes;
 use crate::types::Progress;
 use area::Layout;
+use lines::put_first;
+use lines::put_last;
+use lines::put_move;
+use lines::put_refused;
 use playing::begins::begin_run;
-use playing::moves::play_move;
+use playing::moves::play_call;
+use playing::types::Played;
 use runfile::file;
 use runfile::moves;
+use runfile::types::Asked;
 use tally::Tally;
 ghost use mathlib.Core.Bool.{true};
 ghost use mathlib.Core.Path.{_≡_};
@@ -24,26 +26,29 @@ ghost use Rattle.text.specs.Sheet.{sheet, put};
 ghost use Rattle.tally.specs.Tally.{no-tally, Room};
 ghost use Rattle.bench.specs.Printed.{run-text, printed};
 ghost use Rattle.playing.specs.Code.{state};
+ghost use Rattle.bench.specs.Sizes.{area-words, text-bytes};
 ghost use Rattle.bench.specs.Code.{as-course, course-after, lines-from};
 
 // Puts the text of these bytes: that of the run if they are a run file, and one line if not. Returns where it ends.
-// Where 290,000 bytes are lent it is whole.
+// Where as many bytes are lent as hold any text it is whole.
 pub fn put_text(file: &[u8], out: &mut [u8]) -> usize
     ensures { λ r. ⌜ sheet (now (out .exit)) r
         ≡ put (sheet (now (out .entry)) 0) (printed (now (file .entry))) ⌝ }
     ensures { λ r. ⌜ Counts r (now (out .exit)) ⌝ }
-    ensures { λ r. ⌜ (290000 ≤ length (now (out .entry))
+    ensures { λ r. ⌜ (text-bytes ≤ length (now (out .entry))
         → take r (now (out .exit)) ≡ printed (now (file .entry))) ⌝ }
 {
     if !file::is_run_file(file) {
         return put_refused(out, 0);
     }
-    let mut space = [0u64; 711];
+    let mut space = [0u64; sizes::AREA];
     put_run_in(file, &mut space, out)
 }
 
-// The whole text of these bytes, in as many bytes as hold any.
+// The whole text of these bytes, in as many bytes as hold any. Every other byte stays.
 pub fn whole_text(file: &[u8], out: &mut [u8; sizes::TEXT]) -> usize
+    ensures { λ r. ⌜ sheet (now (out .exit)) r
+        ≡ put (sheet (now (out .entry)) 0) (printed (now (file .entry))) ⌝ }
     ensures { λ r. ⌜ take r (now (out .exit)) ≡ printed (now (file .entry)) ⌝ }
     ensures { λ r. ⌜ Counts r (now (out .exit)) ⌝ }
 {
@@ -52,7 +57,7 @@ pub fn whole_text(file: &[u8], out: &mut [u8; sizes::TEXT]) -> usize
 
 // The text of a run, on the first words of some that are enough for any run.
 fn put_run_in(file: &[u8], space: &mut [u64], out: &mut [u8]) -> usize
-    requires { ⌜ (is-run-file (now file) ≡ true) × (711 ≤ length (now space)) ⌝ }
+    requires { ⌜ (is-run-file (now file) ≡ true) × (area-words ≤ length (now space)) ⌝ }
     ensures { λ r. ⌜ sheet (now (out .exit)) r
         ≡ put (sheet (now (out .entry)) 0) (run-text (now (file .entry))) ⌝ }
 {
@@ -98,17 +103,35 @@ fn put_moves(file: &[u8], area: &mut [u64], out: &mut [u8], at: usize) -> usize
     put_last(out, g.end, area, g.tally)
 }
 
-// Plays move i and puts its line.
+// Plays move i and puts its line. It is decoded here, once; one that is malformed is refused by 12, printed like any
+// other, and the run goes on.
 fn put_next(file: &[u8], i: u32, area: &mut [u64], out: &mut [u8], g: Progress) -> Progress
     requires { ⌜ Room (g .tally) ⌝ }
     ensures { λ r. ⌜ as-course (now (area .exit)) (now (out .exit)) r
         ≡ course-after (now (file .entry)) i (as-course (now (area .entry)) (now (out .entry)) g) ⌝ }
 {
     let h = file::header(file);
+    let n = h.n as u64;
     let w = moves::written_move(file, i);
-    let x = play_move(file, i, area, g.used);
+    let asked = moves::asked(n, w.process, w.kind, w.len);
+    let Asked::Call(call) = asked else {
+        let refusal = Played {
+            number: 12,
+            ended: false,
+            age: 0,
+            used: g.used,
+        };
+        let behind = put_move(out, g.end, n, i, w, refusal, area);
+        return Progress {
+            end: behind,
+            used: refusal.used,
+            tally: tally::brought_up(g.tally, refusal.number, refusal.age),
+        };
+    };
+    let x = play_call(file, call, area, g.used);
+    let end = put_move(out, g.end, n, i, w, x, area);
     Progress {
-        end: put_move(out, g.end, h.n as u64, i, w, x, area),
+        end,
         used: x.used,
         tally: tally::brought_up(g.tally, x.number, x.age),
     }

@@ -3,7 +3,6 @@ use borrow.Author.Needs.{needs}
 use native.Mathlib.Omega.{arith}
 use mathlib.Core.Path.{ap}
 use Prim.Native.Nat.{_-_}
-use Rattle.playing.proofs.OneMove.{its-moves}
 use Rattle.bench.proofs.Course.{Coursing, coursing-none, coursing-room, coursing-more, coursing-done}
 use Rattle.bench.proofs.printing.put_moves.Statement.{statement}
 use Rattle.bench.proofs.printing.put_moves.Tie as tie
@@ -39,11 +38,8 @@ loop-again c =
     let play = c .before .before .before .before in
     let turn = play .before .before .before .before .before in
     let a = turn .before .before .before .before .before .before .args in
-    coursing-more (turn .loop .inv) _ _ _ (omega (
-      arith,
-      its-moves (a .file .now)
-          (turn .before .before .header .ensures),
-    )) (omega arith)
+    coursing-more (turn .loop .inv) _ _ _ (omega (arith, ap (λ h. h .moves) (turn .before .before .header .ensures)))
+    (omega arith)
     (omega arith) (omega arith) (play .put-next .ensures)
 
 put-last-requires : tie.Need-put-last-requires Inv-loop μ-loop
@@ -60,7 +56,7 @@ returns c =
     let last-put = c .before .before in
     let turn = last-put .before .before .before .before .before in
     let a = turn .before .before .before .before .before .before .args in
-    coursing-done (turn .loop .inv) (omega (arith, its-moves (a .file .now) (turn .before .before .header .ensures)))
+    coursing-done (turn .loop .inv) (omega (arith, ap (λ h. h .moves) (turn .before .before .header .ensures)))
     (last-put .put-last .ensures)
 
 pub put-moves-spec : {M : Type 1} → statement M

@@ -1,11 +1,11 @@
--- `bench::lines::put_move` meets its contract: a finished read has its fields too. Assumes nothing.
+-- `lines::put_move` meets its contract: a finished read has its fields too. Assumes nothing.
 use borrow.Author.Needs.{needs}
 use Rattle.runfile.specs.Code.{as-written}
 use Rattle.text.specs.Sheet.{sheet}
 use Rattle.playing.specs.Code.{as-outcome}
-use Rattle.bench.proofs.Putting.{read-line, other-line}
-use Rattle.bench.proofs.lines.put_move.Statement.{statement}
-use Rattle.bench.proofs.lines.put_move.Tie as tie
+use Rattle.lines.proofs.Putting.{read-line, other-line}
+use Rattle.lines.proofs.put_move.Statement.{statement}
+use Rattle.lines.proofs.put_move.Tie as tie
 
 put-answer-requires : tie.Need-put-answer-requires
 put-answer-requires c κs = search needs

@@ -9,7 +9,7 @@ use Rattle.runfile.specs.RunFile.{Written}
 use Rattle.text.specs.Lines.{Text, blank, newline, decimal, behind-blanks, line}
 use Rattle.text.specs.Sheet.{Sheet, put}
 use Rattle.text.proofs.Sheets.{then-put}
-use Rattle.bench.specs.Printed.{letter, one-if, answer-line}
+use Rattle.lines.specs.OneLine.{letter, one-if, answer-line}
 
 blanks-joined : (l k : List Text) → behind-blanks (l ++ k) ≡ behind-blanks l ++ behind-blanks k
 blanks-joined [] k = refl

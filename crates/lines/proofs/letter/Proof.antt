@@ -1,7 +1,7 @@
--- `bench::lines::letter` meets its contract: its tests are those of the definition. Assumes nothing.
+-- `lines::letter` meets its contract: its tests are those of the definition. Assumes nothing.
 use borrow.Author.Tests.{eq-eqb, ne-eqb}
-use Rattle.bench.proofs.lines.letter.Statement.{statement}
-use Rattle.bench.proofs.lines.letter.Tie as tie
+use Rattle.lines.proofs.letter.Statement.{statement}
+use Rattle.lines.proofs.letter.Tie as tie
 
 returns : tie.Need-returns
 returns c = simp (eq-eqb _ _ (c .if1 .taken))

@@ -1,4 +1,5 @@
 // The lines that the bench prints, each put behind the text that is there.
+use area::Layout;
 use board::showing;
 use playing::types::Played;
 use runfile::file;
@@ -14,17 +15,17 @@ ghost use mathlib.Core.Path.{_≡_};
 ghost use Rattle.register.specs.Area.{current, memory};
 ghost use Rattle.register.specs.Calls.{shown};
 ghost use Rattle.runfile.specs.Code.{as-written};
-ghost use Rattle.text.specs.Lines.{decimal, behind-blanks};
+ghost use Rattle.text.specs.Lines.{decimal, behind-blanks, line};
 ghost use Rattle.text.specs.Sheet.{sheet};
 ghost use Rattle.text.specs.Sheet.{put as Sheet·put};
 ghost use Rattle.tally.specs.Tally.{as-tally};
-ghost use Rattle.bench.specs.Printed.{letter as Printed·letter};
-ghost use Rattle.bench.specs.Printed.{one-if, answer-line, first-line, last-line, refused-text};
+ghost use Rattle.lines.specs.OneLine.{letter as OneLine·letter};
+ghost use Rattle.lines.specs.OneLine.{one-if, answer-line, first-line, last-line, refused-text};
 ghost use Rattle.playing.specs.Code.{as-outcome};
 
 // B for a begin, S for a step, ? for another kind.
 fn letter(kind: u64) -> u8
-    ensures { λ r. ⌜ r ≡ Printed·letter kind ⌝ }
+    ensures { λ r. ⌜ r ≡ OneLine·letter kind ⌝ }
 {
     if kind == 0 {
         return b'B';
@@ -46,15 +47,13 @@ fn put_answer(
     ended: bool,
 ) -> usize
     ensures { λ r. ⌜ sheet (now (out .exit)) r ≡ Sheet·put (sheet (now (out .entry)) at)
-        (decimal i ++ behind-blanks (decimal process ∷ (Printed·letter kind ∷ []) ∷ decimal number
+        (decimal i ++ behind-blanks (decimal process ∷ (OneLine·letter kind ∷ []) ∷ decimal number
         ∷ decimal (one-if ended) ∷ [])) ⌝ }
 {
     let end = put_number(out, at, i as u64);
     let end = put_field(out, end, process);
-    let end = put(out, end, b' ');
-    let end = put(out, end, letter(kind));
-    let end = put_field(out, end, number);
-    put_field(out, end, one_if(ended))
+    let end = put_all(out, end, &[b' ', letter(kind)]);
+    put_fields(out, end, &[number, one_if(ended)])
 }
 
 // 1 if so, or else 0.
@@ -101,11 +100,7 @@ pub fn put_first(out: &mut [u8], at: usize, file: &[u8]) -> usize
         ≡ Sheet·put (sheet (now (out .entry)) at) (first-line (now (file .entry))) ⌝ }
 {
     let h = file::header(file);
-    let end = put_all(out, at, b"run");
-    let end = put_field(out, end, h.n as u64);
-    let end = put_field(out, end, h.c as u64);
-    let end = put_field(out, end, h.moves as u64);
-    put(out, end, b'\n')
+    put_line(out, at, b"run", &[h.n as u64, h.c as u64, h.moves as u64])
 }
 
 // The last line of a run.
@@ -113,26 +108,38 @@ pub fn put_last(out: &mut [u8], at: usize, area: &[u64], t: Tally) -> usize
     ensures { λ r. ⌜ sheet (now (out .exit)) r
         ≡ Sheet·put (sheet (now (out .entry)) at) (last-line (now (area .entry)) (as-tally t)) ⌝ }
 {
-    let end = put_all(out, at, b"end");
-    let end = put_field(out, end, current_word(area));
-    let end = put_field(out, end, t.accepted);
-    let end = put_field(out, end, t.refusals);
-    let end = put_field(out, end, t.greatest);
-    put(out, end, b'\n')
+    put_line(
+        out,
+        at,
+        b"end",
+        &[current_word(area), t.accepted, t.refusals, t.greatest],
+    )
 }
 
 // The current word.
 fn current_word(area: &[u64]) -> u64
     ensures { λ r. ⌜ r ≡ memory (now (area .entry)) current ⌝ }
 {
-    if 7 < area.len() { area[7] } else { 0 }
+    if Layout::CURRENT < area.len() {
+        area[Layout::CURRENT]
+    } else {
+        0
+    }
 }
 
 // The one line of a file that is no run file.
 pub fn put_refused(out: &mut [u8], at: usize) -> usize
     ensures { λ r. ⌜ sheet (now (out .exit)) r ≡ Sheet·put (sheet (now (out .entry)) at) refused-text ⌝ }
 {
-    let end = put_all(out, at, b"refused");
-    let end = put_field(out, end, 11);
+    put_line(out, at, b"refused", &[11])
+}
+
+// A word, numbers behind it in decimal, and a newline.
+fn put_line(out: &mut [u8], at: usize, word: &[u8], numbers: &[u64]) -> usize
+    ensures { λ r. ⌜ sheet (now (out .exit)) r ≡ Sheet·put (sheet (now (out .entry)) at)
+        (line (now (word .entry)) (map decimal (now (numbers .entry)))) ⌝ }
+{
+    let end = put_all(out, at, word);
+    let end = put_fields(out, end, numbers);
     put(out, end, b'\n')
 }

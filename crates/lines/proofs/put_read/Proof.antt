@@ -1,12 +1,12 @@
--- `bench::lines::put_read` meets its contract: the words behind the age. Assumes nothing.
+-- `lines::put_read` meets its contract: the words behind the age. Assumes nothing.
 use borrow.Author.Needs.{needs}
 use mathlib.Core.Path.{ap, _∙_}
 use mathlib.Core.List.{_∷_, map}
 use Rattle.text.specs.Lines.{blank, decimal, behind-blanks}
 use Rattle.text.specs.Sheet.{sheet, put}
 use Rattle.text.proofs.Sheets.{then-put}
-use Rattle.bench.proofs.lines.put_read.Statement.{statement}
-use Rattle.bench.proofs.lines.put_read.Tie as tie
+use Rattle.lines.proofs.put_read.Statement.{statement}
+use Rattle.lines.proofs.put_read.Tie as tie
 
 put-field-requires : tie.Need-put-field-requires
 put-field-requires c κs = search needs

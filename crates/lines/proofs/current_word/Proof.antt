@@ -1,9 +1,9 @@
--- `bench::lines::current_word` meets its contract: without an eighth word it is 0. Assumes nothing.
+-- `lines::current_word` meets its contract: without an eighth word it is 0. Assumes nothing.
 use borrow.Author.Needs.{needs}
 use lib.ListN.{List·getD-eq-default}
 use mathlib.Core.Path.{sym}
-use Rattle.bench.proofs.lines.current_word.Statement.{statement}
-use Rattle.bench.proofs.lines.current_word.Tie as tie
+use Rattle.lines.proofs.current_word.Statement.{statement}
+use Rattle.lines.proofs.current_word.Tie as tie
 
 shared-slice-read-result : tie.Need-shared-slice-read-result
 shared-slice-read-result c = search needs

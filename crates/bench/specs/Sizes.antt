@@ -1,0 +1,12 @@
+-- How many words and bytes are enough for any run file. Assumes nothing.
+use Prim.Native.Nat.{ℕ}
+use Rattle.register.specs.Table.{total}
+use Rattle.register.specs.Area.{form1}
+
+-- the words of the largest area of a run: N 8, C 32
+abbrev pub area-words : ℕ
+area-words = total (form1 8 32)
+
+-- so many bytes hold the text of any file
+abbrev pub text-bytes : ℕ
+text-bytes = 290000

@@ -1,0 +1,2 @@
+-- The proofs about lines: laws of the definitions. Assumes nothing.
+mod Putting
