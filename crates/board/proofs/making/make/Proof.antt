@@ -1,14 +1,17 @@
 -- `making::make` meets its contract: each test decides its answer, and after the last the words are filled.
 -- Assumes nothing.
 use borrow.Author.Needs.{needs}
-use Rattle.board.proofs.Fresh.{Taken, taken-of, made-unknown, made-other-length, made-too-long}
-use Rattle.board.proofs.Fresh.{made-sized, made-well}
+use Rattle.area.proofs.Taken.{Taken, taken-of}
+use Rattle.board.proofs.Made.{made-unknown, made-other-length, made-too-long, made-sized, made-well}
 use Rattle.board.proofs.making.make.Statement.{statement}
 use Rattle.board.proofs.making.make.Tie as tie
 
 -- the form is known, and N and C are in range
-taken : (c : tie.Else1) → let x = c .before .before .before .before .args in Taken (x .form) (x .n) (x .c)
-taken c = taken-of _ _ _ (c .before .in-range .ensures) (c .if1 .left)
+taken : (c : tie.Else1) → let x = c .before .before .before .before .before .args in Taken (x .form) (x .n) (x .c)
+taken c = taken-of _ _ _ (c .before .before .known-form .ensures) (c .before .in-range .ensures) (c .if1 .left)
+
+known-form-requires : tie.Need-known-form-requires
+known-form-requires c κs = search needs
 
 in-range-requires : tie.Need-in-range-requires
 in-range-requires c κs = search needs
@@ -18,7 +21,9 @@ refusal-requires c κs = search needs
 
 returns : tie.Need-returns
 returns c =
-    made-unknown _ _ _ _ _ (c .refusal .ensures) (c .before .before .in-range .ensures) (c .before .if1 .taken)
+    let b = c .before .before in
+    made-unknown _ _ _ _ _ (c .refusal .ensures) (b .before .known-form .ensures) (b .in-range .ensures)
+    (c .before .if1 .taken)
 
 new-requires : tie.Need-new-requires
 new-requires c κs = (taken c .few-readers, taken c .few-words)
@@ -65,6 +70,7 @@ pub make-spec : {M : Type 1} → statement M
 make-spec =
     tie.close
     (tie.spec
+    known-form-requires
     in-range-requires
     refusal-requires
     returns

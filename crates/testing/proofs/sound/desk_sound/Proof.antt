@@ -1,7 +1,7 @@
 -- `sound::desk_sound` meets its contract: its tests are those of the desk. Assumes nothing.
 use borrow.Author.Needs.{needs}
-use Rattle.register.specs.Area.{desk-sound}
-use Rattle.area.proofs.Joined.{six}
+use Rattle.area.specs.Words.{memory-of}
+use Rattle.testing.proofs.MemoryTest.{desk-by}
 use Rattle.testing.proofs.sound.desk_sound.Statement.{statement}
 use Rattle.testing.proofs.sound.desk_sound.Tie as tie
 
@@ -24,16 +24,12 @@ desk-field-requires-5 : tie.Need-desk-field-requires-5
 desk-field-requires-5 c κs = search needs
 
 returns : tie.Need-returns
-unfolding desk-sound
 returns c =
-    rw (
-      c .before .before .before .before .desk-field .ensures,
-      c .before .before .before .desk-field2 .ensures,
-      c .before .before .desk-field3 .ensures,
-      c .before .desk-field4 .ensures,
-      c .desk-field5 .ensures,
-      six,
-    )
+    let d = c .before .before .before .before in
+    let b = d .before .before .args in
+    desk-by (b .p .n) (b .p .c) (memory-of (b .p) (b .area .now)) (b .r)
+    (d .desk-field .ensures) (c .before .before .before .desk-field2 .ensures)
+    (c .before .before .desk-field3 .ensures) (c .before .desk-field4 .ensures) (c .desk-field5 .ensures)
 
 pub desk-sound-spec : {M : Type 1} → statement M
 desk-sound-spec =

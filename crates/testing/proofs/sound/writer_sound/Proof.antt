@@ -1,7 +1,9 @@
 -- `sound::writer_sound` meets its contract: its tests are those of the writer's desk. Assumes nothing.
 use borrow.Author.Needs.{needs}
-use Rattle.register.specs.Area.{writer-sound}
-use Rattle.area.proofs.Joined.{nine}
+use mathlib.Core.Path.{ap, _∙_}
+use Rattle.register.specs.Area.{word-sound}
+use Rattle.area.specs.Words.{memory-of}
+use Rattle.testing.proofs.MemoryTest.{writer-by}
 use Rattle.testing.proofs.sound.writer_sound.Statement.{statement}
 use Rattle.testing.proofs.sound.writer_sound.Tie as tie
 
@@ -33,19 +35,15 @@ writer-field-requires-7 : tie.Need-writer-field-requires-7
 writer-field-requires-7 c κs = search needs
 
 returns : tie.Need-returns
-unfolding writer-sound
 returns c =
-    rw (
-      c .before .word-sound .ensures,
-      c .before .before .before .before .before .before .before .writer-field .ensures,
-      c .before .before .before .before .before .before .writer-field2 .ensures,
-      c .before .before .before .before .before .writer-field3 .ensures,
-      c .before .before .before .before .writer-field4 .ensures,
-      c .before .before .before .writer-field5 .ensures,
-      c .before .before .writer-field6 .ensures,
-      c .writer-field7 .ensures,
-      nine,
-    )
+    let l = c .before .before .before in
+    let d = l .before .before .before .before in
+    let b = d .before .before .args in
+    writer-by (b .p .n) (b .p .c) (memory-of (b .p) (b .area .now))
+    (d .writer-field .ensures) (l .before .before .before .writer-field2 .ensures)
+    (l .before .before .writer-field3 .ensures) (l .before .writer-field4 .ensures) (l .writer-field5 .ensures)
+    (c .before .word-sound .ensures ∙ ap (word-sound (b .p .n)) (c .before .before .writer-field6 .ensures))
+    (c .writer-field7 .ensures)
 
 pub writer-sound-spec : {M : Type 1} → statement M
 writer-sound-spec =

@@ -1,8 +1,8 @@
--- `making::fill` meets its contract: all words 0, and then the stores of making. Assumes nothing.
+-- `fill` meets its contract: all words 0, and then the stores of making. Assumes nothing.
 use borrow.Author.Needs.{needs}
-use Rattle.board.proofs.Fresh.{filled}
-use Rattle.board.proofs.making.fill.Statement.{statement}
-use Rattle.board.proofs.making.fill.Tie as tie
+use Rattle.fresh.proofs.Filled.{filled}
+use Rattle.fresh.proofs.fill.Statement.{statement}
+use Rattle.fresh.proofs.fill.Tie as tie
 
 clear-requires : tie.Need-clear-requires
 clear-requires c κs = search needs

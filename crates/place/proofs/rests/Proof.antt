@@ -1,9 +1,9 @@
--- `showing::rests` meets its contract: its tests are those of the reader. Assumes nothing.
+-- `rests` meets its contract: its tests are those of the reader. Assumes nothing.
 use borrow.Author.Needs.{needs}
 use Rattle.area.specs.Words.{memory-of}
-use Rattle.board.proofs.Shown.{no-reader, reader-rests}
-use Rattle.board.proofs.showing.rests.Statement.{statement}
-use Rattle.board.proofs.showing.rests.Tie as tie
+use Rattle.place.proofs.Resting.{no-reader, reader-rests}
+use Rattle.place.proofs.rests.Statement.{statement}
+use Rattle.place.proofs.rests.Tie as tie
 
 returns : tie.Need-returns
 returns c =

@@ -1,12 +1,12 @@
--- `making::set_starting` meets its contract: the size, and then the record word by word. Assumes nothing.
+-- `set_starting` meets its contract: the size, and then the record word by word. Assumes nothing.
 use borrow.Author.Needs.{needs}
 use Prim.Native.Nat.{_-_}
 use lib.ListN.{length}
 use Rattle.register.specs.Area.{contents}
 use Rattle.answer.proofs.Copying.{Copying, copying-none, copying-more}
-use Rattle.board.proofs.Fresh.{starting-set}
-use Rattle.board.proofs.making.set_starting.Statement.{statement}
-use Rattle.board.proofs.making.set_starting.Tie as tie
+use Rattle.fresh.proofs.Filled.{starting-set}
+use Rattle.fresh.proofs.set_starting.Statement.{statement}
+use Rattle.fresh.proofs.set_starting.Tie as tie
 
 abbrev Inv-loop : tie.InvT-loop
 Inv-loop area₀ p «record» i₀ area i = Copying p (contents 0) «record» area₀ area i

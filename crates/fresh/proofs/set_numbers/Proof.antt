@@ -1,10 +1,10 @@
--- `making::set_numbers` meets its contract: the words that are set are those of the stores. Assumes nothing.
+-- `set_numbers` meets its contract: the words that are set are those of the stores. Assumes nothing.
 use borrow.Author.Needs.{needs}
 use native.Mathlib.Omega.{arith}
 use lib.ListN.{length-set}
-use Rattle.board.proofs.Fresh.{numbers-set}
-use Rattle.board.proofs.making.set_numbers.Statement.{statement}
-use Rattle.board.proofs.making.set_numbers.Tie as tie
+use Rattle.fresh.proofs.Filled.{numbers-set}
+use Rattle.fresh.proofs.set_numbers.Statement.{statement}
+use Rattle.fresh.proofs.set_numbers.Tie as tie
 
 slice-write-area : tie.Need-slice-write-area
 slice-write-area c = search needs

@@ -1,24 +1,44 @@
--- The place of a reader's record: what showing hands back stands there, and it lies within the area. Assumes nothing.
+-- The place of a reader's record: where the code finds it or not (`place-untested`, `place-busy`, `place-own`), and
+-- that what showing hands back stands there, within the area. Assumes nothing.
 use mathlib.Core.Path.{_≡_, refl, sym, ap, _∙_}
+use mathlib.Core.Logic.{_≢_}
 use mathlib.Core.Bool.{Bool, true, false}
 use mathlib.Core.List.{List}
 use Prim.Native.Nat.{ℕ, _+_, _≤_}
+use native.Mathlib.Nat.{mul-le-mul-right}
 use native.Mathlib.Omega.{arith}
+use lib.Dec.{eqb}
 use lib.ListN.{length, take, drop}
 use Rattle.register.specs.Place.{Record}
-use Rattle.register.specs.Area.{readers, capacity, len}
+use Rattle.register.specs.Area.{readers, capacity, len, all}
 use Rattle.register.specs.Calls.{is-own, shown}
 use Rattle.area.specs.declared.Layout.{Layout}
 use Rattle.area.specs.Words.{layout-of, desk-word, memory-of}
-use Rattle.board.proofs.Shown.{own-facts, record-within}
-use Rattle.board_c.specs.Places.{nowhere, place-of}
-use Rattle.board_c.specs.Promises.{PlacesAreShown}
+use Rattle.testing.specs.Test.{test-number}
+use Rattle.place.specs.Places.{rest-tests, nowhere, place-of}
+use Rattle.place.specs.Promises.{PlacesAreShown}
+use Rattle.place.proofs.Resting.{not-own, own-is, Own, own-facts}
 
 module _ (a : List ℕ) (r : ℕ) where
+  -- ---- where the code finds it
+
   -- not the reader's
-  pub place-none : is-own a r ≡ false → nowhere ≡ place-of a r
+  place-none : is-own a r ≡ false → nowhere ≡ place-of a r
   unfolding place-of
   place-none e = rw e
+
+  -- the test of the area gives a number
+  pub place-untested : test-number a ≢ 0 → nowhere ≡ place-of a r
+  place-untested d = place-none (not-own a r d)
+
+  module _ {p : Layout} (l : p ≡ layout-of (readers a) (capacity a)) (e : test-number a ≡ 0) where
+    -- a test of the reader fails
+    pub place-busy : all (rest-tests (p .n) (memory-of p a) r) ≡ false → nowhere ≡ place-of a r
+    place-busy f = place-none (sym (own-is a r l e) ∙ f)
+
+    -- all pass
+    pub rested : all (rest-tests (p .n) (memory-of p a) r) ≡ true → is-own a r ≡ true
+    rested f = sym (own-is a r l e) ∙ f
 
   -- the reader's, by the area's layout
   pub place-own : {p : Layout} {at words : ℕ} → p ≡ layout-of (readers a) (capacity a) → is-own a r ≡ true
@@ -27,7 +47,17 @@ module _ (a : List ℕ) (r : ℕ) where
   unfolding place-of
   place-own l e f g = rw (e, f, g, l)
 
-  -- yes is 1 where the record is the reader's
+  -- ---- what it says
+
+  -- yes is 1 exactly where the record is the reader's
+  pub yes-is : eqb (place-of a r .yes) 1 ≡ is-own a r
+  unfolding place-of
+  yes-is = go (is-own a r) refl
+    where
+      go : (b : Bool) → is-own a r ≡ b → eqb (place-of a r .yes) 1 ≡ is-own a r
+      go true e = rw e
+      go false e = rw e
+
   yes-own : place-of a r .yes ≡ 1 → is-own a r ≡ true
   yes-own = go (is-own a r) refl
     where
@@ -50,11 +80,14 @@ module _ (a : List ℕ) (r : ℕ) where
   unfolding place-of shown
   there h d = rw (yes-own h)
 
+  -- the words of the desk's record lie within the area
+  record-within : {p : Layout} → Own p a r → desk-word (p .n) (p .c) r 6 + memory-of p a (len r) ≤ length a
+  record-within {p} o =
+      omega (arith, mul-le-mul-right (6 + p .c) (o .exists), o .sized .exact, o .sound .desk r (o .exists) .words)
+
   within : place-of a r .yes ≡ 1 → place-of a r .at + place-of a r .len ≤ length a
   unfolding place-of
-  within h =
-      let o = own-facts a r (yes-own h) _ refl in
-      rw (yes-own h) (record-within (o .ready) (o .exists) refl refl)
+  within h = rw (yes-own h) (record-within (own-facts a r (yes-own h) refl))
 
   default : place-of a r .yes ≡ 0 → (d : Record) → shown a r d ≡ d
   unfolding shown

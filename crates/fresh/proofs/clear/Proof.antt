@@ -1,10 +1,10 @@
--- `making::clear` meets its contract: each word becomes 0 in turn. Assumes nothing.
+-- `clear` meets its contract: each word becomes 0 in turn. Assumes nothing.
 use borrow.Author.Needs.{needs}
 use Prim.Native.Nat.{_-_}
 use lib.ListN.{length}
-use Rattle.board.proofs.Clearing.{Clearing, clearing-none, clearing-more, clearing-done}
-use Rattle.board.proofs.making.clear.Statement.{statement}
-use Rattle.board.proofs.making.clear.Tie as tie
+use Rattle.fresh.proofs.Clearing.{Clearing, clearing-none, clearing-more, clearing-done}
+use Rattle.fresh.proofs.clear.Statement.{statement}
+use Rattle.fresh.proofs.clear.Tie as tie
 
 abbrev Inv-loop : tie.InvT-loop
 Inv-loop area₀ i₀ area i = Clearing area₀ area i
