@@ -1,4 +1,5 @@
 -- Laws of the calls that their proofs cite. Assumes nothing.
 mod Made
 mod Answering
+mod Shown
 pub mod Unique

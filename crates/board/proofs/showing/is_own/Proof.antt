@@ -10,7 +10,7 @@ place-of-requires : tie.Need-place-of-requires
 place-of-requires c κs = search needs
 
 returns : tie.Need-returns
-returns c = ap (λ x. eqb (x .yes) 1) (c .place-of .ensures) ∙ yes-is _ _
+returns c = ap (λ x. eqb (x .yes) 1) (c .before .place-of .ensures) ∙ yes-is _ _
 
 pub is-own-spec : {M : Type 1} → statement M
 is-own-spec = tie.close (tie.spec place-of-requires returns)
