@@ -1,8 +1,11 @@
 -- `set_starting` meets its contract: the size, and then the record word by word. Assumes nothing.
 use borrow.Author.Needs.{needs}
+use mathlib.Core.Path.{_∙_}
+use native.Mathlib.Omega.{arith}
 use Prim.Native.Nat.{_-_}
 use lib.ListN.{length}
 use Rattle.register.specs.Area.{contents}
+use Rattle.answer.proofs.Stored.{still-sized}
 use Rattle.answer.proofs.Copying.{Copying, copying-none, copying-more}
 use Rattle.fresh.proofs.Filled.{starting-set}
 use Rattle.fresh.proofs.set_starting.Statement.{statement}
@@ -27,7 +30,14 @@ shared-slice-read-set-contents : tie.Need-shared-slice-read-set-contents Inv-loo
 shared-slice-read-set-contents c = search needs
 
 set-contents-requires : tie.Need-set-contents-requires Inv-loop μ-loop
-set-contents-requires c κs = (search needs, search needs, search needs)
+set-contents-requires c κs =
+    let l = c .before .before .before in
+    let first = l .before .before in
+    let start = first .before .before .before .before .before in (
+      still-sized (start .pre .0) (l .loop .inv .as-many ∙ first .area .given),
+      omega arith,
+      omega (arith, start .pre .1, c .before .before .loop-test .taken),
+    )
 
 add-i : tie.Need-add-i Inv-loop μ-loop
 add-i c = search needs
