@@ -13,6 +13,12 @@ pub record Taken (form n c : ℕ) : Type 0 where
   pub few-readers : n ≤ 64
   pub few-words : c ≤ 256
 
+-- what the two tests say where they pass
+pub passed-taken : {form n c : ℕ} → known-form form && in-range n c ≡ true → Taken form n c
+passed-taken {form} {n} {c} e =
+    let range = range-facts n c (both (known-form form) (in-range n c) (true-passes _ e) .1) in
+    record { known = e; few-readers = range .few-readers; few-words = range .few-words }
+
 module _ (form n c : ℕ) {k r : Bool} (f : k ≡ known-form form) (g : r ≡ in-range n c) where
   -- one of the two tests failed
   pub not-taken : not (k && r) ≡ true → known-form form && in-range n c ≡ false
@@ -20,7 +26,4 @@ module _ (form n c : ℕ) {k r : Bool} (f : k ≡ known-form form) (g : r ≡ in
 
   -- both passed
   pub taken-of : not (k && r) ≡ false → Taken form n c
-  taken-of h =
-      let known = was-yes (ap₂ _&&_ f g) h in
-      let range = range-facts n c (both (known-form form) (in-range n c) (true-passes _ known) .1) in
-      record { known = known; few-readers = range .few-readers; few-words = range .few-words }
+  taken-of h = passed-taken (was-yes (ap₂ _&&_ f g) h)

@@ -1,66 +1,73 @@
--- Laws of making: which answer each test of `make` decides. Assumes nothing.
-use mathlib.Core.Path.{_≡_, sym, ap, _∙_}
+-- Laws of making: its number answers where it is not 0, and where it is the words are filled. Assumes nothing.
+use mathlib.Core.Path.{_≡_, refl, sym, ap, ap₂, _∙_}
 use mathlib.Core.Logic.{_≢_}
-use mathlib.Core.Bool.{Bool, true, false, _&&_, not}
-use mathlib.Core.List.{List}
-use Prim.Native.Nat.{ℕ, _≤_, _<_}
-use borrow.Author.Tests.{eq-eqb, ne-eqb, le-leb, lt-leb}
-use lib.Dec.{eqb}
+use mathlib.Core.Bool.{Bool, true, false, cond, _&&_}
+use mathlib.Core.List.{List, [], _∷_}
+use Prim.Native.Nat.{ℕ, _≤_}
+use borrow.Author.Tests.{eq-eqb, ne-eqb}
+use lib.Dec.{eqb, leb}
 use lib.ListN.{length}
 use Rattle.register.specs.Place.{Record}
 use Rattle.register.specs.Table.{total}
 use Rattle.register.specs.Area.{form1, known-form, in-range}
-use Rattle.register.specs.Calls.{fresh, made}
+use Rattle.register.specs.Steps.{_else_, unless}
+use Rattle.register.specs.Calls.{Answer, refused, fresh, made}
 use Rattle.area.specs.Words.{layout-of, Sized}
 use Rattle.area.specs.declared.Layout.{Layout}
-use Rattle.area.proofs.Sizes.{total-is, laid-of}
-use Rattle.area.proofs.Taken.{Taken, not-taken}
+use Rattle.area.proofs.Sizes.{laid-of}
 use Rattle.answer.specs.Carried.{whole}
-use Rattle.answer.specs.declared.Answer.{Answer}
+use Rattle.answer.specs.declared.Answer.{Answer as Returned}
+use Rattle.answer.proofs.Stored.{returned}
+use Rattle.fresh.specs.Making.{making-number}
+use Rattle.fresh.proofs.Number.{Fits, fits-of}
 
--- the number that an accepted or refused making returns, which ends no operation and has age 0
-abbrev pub answer : ℕ → Answer
-answer k = record { number = k; ended = false; age = 0 }
+-- three tests by their number: the number itself, or what is behind them
+by-number : (t s l : Bool) (f : ℕ → Answer) (x : Answer)
+    → unless f (t else 9 ∷ s else 10 ∷ l else 4 ∷ []) x
+    ≡ (let k = unless (λ k. k) (t else 9 ∷ s else 10 ∷ l else 4 ∷ []) 0 in cond (eqb k 0) x (f k))
+by-number true true true f x = refl
+by-number true true false f x = refl
+by-number true false l f x = refl
+by-number false s l f x = refl
 
--- an unknown form, or N or C out of range: 9
-pub made-unknown : (form n c : ℕ) (v : Record) (a : List ℕ) {x : Answer} {k r : Bool} → x ≡ answer 9
-    → k ≡ known-form form → r ≡ in-range n c → not (k && r) ≡ true → whole x a ≡ made form n c v a
-unfolding made
-made-unknown form n c v a e f g h = rw (e, not-taken form n c f g h)
+module _ (form n c : ℕ) (v : Record) (a : List ℕ) where
+  -- the number of these lengths
+  abbrev number : ℕ
+  number = making-number form n c (length a) (length v)
 
-module _ {form n c : ℕ} (t : Taken form n c) {p : Layout} (l : p ≡ layout-of n c) (v : Record) (a : List ℕ) where
-  -- the layout of N and C has the area's total, and its C
-  total-here : p .total ≡ total (form1 n c)
-  total-here = ap (λ q. q .total) l
+  abbrev accepted : Answer
+  accepted = record { number = 0; ended = false; age = 0; area = fresh n c v }
 
-  words-here : p .c ≡ c
-  words-here = ap (λ q. q .c) l
+  -- the answer, by whether it is 0
+  made-by : {b : Bool} → eqb number 0 ≡ b → made form n c v a ≡ cond b accepted (refused number a)
+  unfolding made making-number
+  made-by e =
+      by-number (known-form form && in-range n c) (eqb (length a) (total (form1 n c))) (leb (length v) c)
+      (λ k. refused k a) accepted
+      ∙ ap (λ b. cond b accepted (refused number a)) e
 
-  -- a slice of another length: 10
-  pub made-other-length : {x : Answer} → x ≡ answer 10 → length a ≢ p .total → whole x a ≡ made form n c v a
-  unfolding made
-  made-other-length e d = rw (e, t .known, ne-eqb (length a) (total (form1 n c)) (λ s. d (s ∙ sym total-here)))
+  module _ {k : ℕ} (e : k ≡ number) where
+    -- another number than 0
+    pub made-refused : k ≢ 0 → {x : Returned} → x ≡ returned k false → whole x a ≡ made form n c v a
+    made-refused d f =
+        ap (λ y. whole y a) f ∙ ap (λ j. refused j a) e ∙ sym (made-by (ne-eqb number 0 (λ z. d (e ∙ z))))
 
-  module _ (s : length a ≡ p .total) where
-    -- the slice has the area's words
-    as-many : eqb (length a) (total (form1 n c)) ≡ true
-    as-many = eq-eqb (length a) (total (form1 n c)) (s ∙ total-here)
+    module _ (z : k ≡ 0) where
+      -- what making takes
+      pub fits : Fits form n c (length a) (length v)
+      fits = fits-of form n c (length a) (length v) (sym e ∙ z)
 
-    -- a record of more than C words: 4
-    pub made-too-long : {x : Answer} → x ≡ answer 4 → p .c < length v → whole x a ≡ made form n c v a
-    unfolding made
-    made-too-long e h = rw (e, t .known, as-many, lt-leb (length v) c (rw words-here at h))
+      module _ {p : Layout} (l : p ≡ layout-of n c) where
+        -- the words that are filled, and the record that goes in
+        pub made-sized : Sized p a × (length v ≤ p .c)
+        made-sized =
+            let here = laid-of (fits .taken .few-readers) (fits .taken .few-words) l in (
+              record { laid = here; exact = fits .exact ∙ ap (λ q. total (form1 (q .n) (q .c))) (sym l) },
+              rw (ap (λ q. q .c) l) (fits .short),
+            )
 
-    -- neither: the fresh area
-    pub made-well : {x : Answer} {b : List ℕ} → x ≡ answer 0 → length v ≤ p .c → b ≡ fresh (p .n) (p .c) v
-        → whole x b ≡ made form n c v a
-    unfolding made
-    made-well e h f =
-        rw (e, t .known, as-many, le-leb (length v) c (rw words-here at h))
-        (ap (λ d. whole (answer 0) d) (f ∙ ap (λ q. fresh (q .n) (q .c) v) l))
-
--- the words that are filled
-pub made-sized : {form n c : ℕ} {p : Layout} {a : List ℕ} → Taken form n c → p ≡ layout-of n c
-    → length a ≡ p .total → Sized p a
-made-sized t l s =
-    let here = laid-of (t .few-readers) (t .few-words) l in record { laid = here; exact = s ∙ total-is here }
+        -- the fresh area
+        pub made-well : {x : Returned} {b : List ℕ} → x ≡ returned 0 false → b ≡ fresh (p .n) (p .c) v
+            → whole x b ≡ made form n c v a
+        made-well f g =
+            ap₂ whole f (g ∙ ap (λ q. fresh (q .n) (q .c) v) l) ∙ sym (made-by (eq-eqb number 0 (sym e ∙ z)))

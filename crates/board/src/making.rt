@@ -1,7 +1,6 @@
 // Making a fresh area (I1).
 use answer::Answer;
 use area::Layout;
-use area::header;
 ghost use mathlib.Core.Path.{_≡_};
 ghost use Rattle.register.specs.Calls.{made};
 ghost use Rattle.answer.specs.Carried.{whole};
@@ -10,17 +9,11 @@ ghost use Rattle.answer.specs.Carried.{whole};
 pub fn make(form: u64, n: u64, c: u64, record: &[u64], area: &mut [u64]) -> Answer
     ensures { λ x. ⌜ whole x (now (area .exit)) ≡ made form n c (now («record» .entry)) (now (area .entry)) ⌝ }
 {
-    let known = header::known_form(form) & header::in_range(n, c);
-    if !known {
-        return answer::refusal(9);
+    let number = fresh::tested(form, n, c, area.len(), record.len());
+    if number != 0 {
+        return answer::refusal(number);
     }
     let p = Layout::new(n as usize, c as usize);
-    if area.len() != p.total {
-        return answer::refusal(10);
-    }
-    if p.c < record.len() {
-        return answer::refusal(4);
-    }
     fresh::fill(area, p, record);
     answer::accepted()
 }

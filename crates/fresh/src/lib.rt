@@ -1,12 +1,32 @@
-// The words of a fresh area (I1): all 0, and then the header and the starting record.
+// What making takes, and the words of a fresh area (I1): all 0, and then the header and the starting record.
 use area::Layout;
+use area::header;
 use area::stores;
 ghost use mathlib.Core.Path.{_≡_};
 ghost use Prim.Native.Nat.{_≤_};
 ghost use lib.ListN.{length, replicate};
 ghost use Rattle.register.specs.Calls.{fresh};
 ghost use Rattle.area.specs.Words.{Sized, words-after};
-ghost use Rattle.fresh.specs.Making.{numbers, offsets, starting};
+ghost use Rattle.fresh.specs.Making.{making-number, numbers, offsets, starting};
+
+// The test that making begins with, of a slice and a record by their lengths: 9 an unknown form, or N or C outside its
+// range; 10 another number of words; 4 too long a record; 0 none of these.
+pub fn tested(form: u64, n: u64, c: u64, words: usize, length: usize) -> u64
+    ensures { λ k. ⌜ k ≡ making-number form n c words length ⌝ }
+{
+    let known = header::known_form(form) & header::in_range(n, c);
+    if !known {
+        return 9;
+    }
+    let p = Layout::new(n as usize, c as usize);
+    if words != p.total {
+        return 10;
+    }
+    if p.c < length {
+        return 4;
+    }
+    0
+}
 
 // Every word becomes 0.
 fn clear(area: &mut [u64])
