@@ -4,7 +4,7 @@ use mathlib.Core.Path.{_≡_, ap₂}
 use Prim.Native.Nat.{ℕ, _≤_}
 use Rattle.register.specs.Area.{known-form, in-range}
 use Rattle.register.proofs.Tests.{both, true-passes}
-use Rattle.register.proofs.Called.{range-facts}
+use Rattle.register.proofs.Facts.{range-facts}
 use Rattle.area.proofs.Asked.{was-no, was-yes}
 
 -- the form is known, and N and C are in range

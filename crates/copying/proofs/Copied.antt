@@ -17,7 +17,7 @@ use Rattle.register.specs.Area.{form1, size, slot-write-number, contents}
 use Rattle.register.specs.Area.{phase, last, pos, len, desk-write-number, finished, read-record}
 use Rattle.register.specs.Steps.{accept, sets-phase, takes, copies, finishes, reader-4, reader-5}
 use Rattle.register.specs.Calls.{age-of}
-use Rattle.register.specs.Demands.{none, also}
+use Rattle.register.specs.Lists.{none, also}
 use Rattle.register.proofs.Tables.{view-store}
 use Rattle.register.proofs.Form1.{body-desk}
 use Rattle.area.specs.Words.{Sized, memory-of, words-after}

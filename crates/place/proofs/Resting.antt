@@ -9,10 +9,10 @@ use lib.Dec.{T, eqb, ltb→lt}
 use Rattle.register.specs.Place.{Memory}
 use Rattle.register.specs.Area.{phase, finished, all, readers, capacity, is-area, undamaged}
 use Rattle.register.specs.Calls.{own-tests, is-own}
-use Rattle.register.specs.Demands.{Each, also}
+use Rattle.register.specs.Lists.{Each, also}
 use Rattle.register.specs.Conditions.{Whole}
 use Rattle.register.proofs.Tests.{passed, true-passes, each-passes}
-use Rattle.register.proofs.Called.{area-facts, whole-area}
+use Rattle.register.proofs.Facts.{area-facts, whole-area}
 use Rattle.area.specs.declared.Layout.{Layout}
 use Rattle.area.specs.Words.{layout-of, Sized, memory-of}
 use Rattle.testing.specs.Test.{test-number}

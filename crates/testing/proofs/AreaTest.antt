@@ -9,7 +9,7 @@ use lib.ListN.{length, getD}
 use Rattle.register.specs.Table.{total}
 use Rattle.register.specs.Area.{form1, known-form, in-range, readers, capacity, is-area}
 use Rattle.register.specs.Area.{all, memory-tests, undamaged}
-use Rattle.register.proofs.Called.{area-facts}
+use Rattle.register.proofs.Facts.{area-facts}
 use Rattle.area.specs.declared.Layout.{Layout}
 use Rattle.area.specs.Words.{layout-of, Sized, memory-of}
 use Rattle.area.proofs.Sizes.{laid-of}
