@@ -7,10 +7,10 @@
  *     cc -Iinclude program.c target/staticlib/libboard_c.a
  * and of the C library it needs memset alone. It is written in Rattle (crates/board_c) and proved: on any
  * input each call returns, and leaves in every word, what one definition says. That of board_make, of the
- * begins and of board_step stands in crates/register/specs/Calls.antt; board_show is `place-of` and
- * board_words is `words-of` of crates/board_c/specs/Places.antt, and `PlacesAreShown` and `WordsAreMade`
- * there tie them to what showing hands back and to what making answers. The calls never allocate, never keep
- * a pointer, print nothing, do not panic, and end.
+ * begins and of board_step stands in crates/register/specs/Calls.antt; board_show is `place-of` of
+ * crates/place/specs/Places.antt and board_words is `words-of` of crates/board_c/specs/Sizes.antt, and
+ * `PlacesAreShown` and `WordsAreMade` (Promises.antt beside each) tie them to what showing hands back and to
+ * what making answers. The calls never allocate, never keep a pointer, print nothing, do not panic, and end.
  *
  * A whole read. The loop looks at the number: a refused call ends nothing, so a loop that waits for `ended`
  * alone would never stop.
