@@ -27,8 +27,11 @@ add-next c = search needs
 set-contents-requires : tie.Need-set-contents-requires
 set-contents-requires c κs =
     let hand = c .before .before .before .before in
-    let start = hand .before .before .before in
-    (start .pre .0 .sized, hand-slot (start .pre .0) (hand .writer-field .ensures), omega (arith, start .pre .0 .sound .writer .copying (start .pre .1)))
+    let start = hand .before .before .before in (
+      start .pre .0 .sized,
+      hand-slot (start .pre .0) (hand .writer-field .ensures),
+      omega (arith, start .pre .0 .sound .writer .copying (start .pre .1)),
+    )
 
 set-writer-field-requires : tie.Need-set-writer-field-requires
 set-writer-field-requires c κs =
@@ -43,8 +46,10 @@ set-writer-field-requires-2 : tie.Need-set-writer-field-requires-2
 set-writer-field-requires-2 c κs =
     let second = c .before .before .before .before in
     let first = second .before .before .before .before in
-    let start = first .before .before .before .before .before .before .before .before in
-    (still-sized (start .pre .0 .sized) (second .set-writer-field .kept .0 ∙ first .set-contents .kept .0), search needs)
+    let start = first .before .before .before .before .before .before .before .before in (
+      still-sized (start .pre .0 .sized) (second .set-writer-field .kept .0 ∙ first .set-contents .kept .0),
+      search needs,
+    )
 
 accepted-requires : tie.Need-accepted-requires
 accepted-requires c κs = search needs
