@@ -1,4 +1,5 @@
 -- Steps 1 to 3 of the writer by each way through their code: its reads and stores are the plan's. Assumes nothing.
+--     copy-done, copy-on                the phase of a copy
 --     last-taken, other-free            whether the slot in hand is free
 --     picked, none-free, passed-by      step 1
 --     filled, sized                     steps 2 and 3
@@ -19,6 +20,14 @@ use Rattle.area.specs.declared.Layout.{Layout}
 use Rattle.answer.specs.declared.Answer.{Answer as Returned}
 use Rattle.answer.specs.Carried.{whole, carried}
 use Rattle.answer.proofs.Stored.{stored, returned, refuses, accepts}
+
+-- the phase of a copy: 3 where it is done, else 2
+module _ {x y phase : ℕ} where
+  pub copy-done : x ≡ y → phase ≡ 3 → phase ≡ cond (eqb x y) 3 2
+  copy-done same phase-is = rw (eq-eqb _ _ same) phase-is
+
+  pub copy-on : x ≢ y → phase ≡ 2 → phase ≡ cond (eqb x y) 3 2
+  copy-on other phase-is = rw (ne-eqb _ _ other) phase-is
 
 module _ (p : Layout) (a : List ℕ) {hand : ℕ} (hand-is : hand ≡ memory-of p a in-hand) where
   -- ---- step 1

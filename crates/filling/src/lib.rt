@@ -6,7 +6,7 @@ use area::records;
 use area::stores;
 ghost use mathlib.Core.Path.{_≡_};
 ghost use mathlib.Core.Logic.{_≢_};
-ghost use mathlib.Core.Bool.{false, cond};
+ghost use mathlib.Core.Bool.{false};
 ghost use Rattle.register.specs.Area.{writer-phase};
 ghost use Rattle.register.specs.Steps.{accept, free, looks, fills, sizes};
 ghost use Rattle.area.specs.Words.{memory-of};
@@ -23,7 +23,8 @@ pub fn looks(area: &mut [u64], p: Layout) -> Answer
     let hand = fields::writer_field(seen, p, Layout::IN_HAND);
     let len = fields::writer_field(seen, p, Layout::WRITER_LEN);
     if free(seen, p) {
-        stores::set_writer_field(area, p, Layout::WRITER_PHASE, copy_phase(len == 0));
+        let phase = if len == 0 { 3 } else { 2 };
+        stores::set_writer_field(area, p, Layout::WRITER_PHASE, phase);
         return answer::accepted();
     }
     if hand == p.n as u64 + 1 {
@@ -48,13 +49,6 @@ fn free(area: &[u64], p: Layout) -> bool
     started == gone
 }
 
-// The phase of a copy: 3 where it is done, else 2.
-fn copy_phase(done: bool) -> u64
-    ensures { λ w. ⌜ w ≡ cond done 3 2 ⌝ }
-{
-    if done { 3 } else { 2 }
-}
-
 // Step 2: the word at pos is copied from the desk to the slot in hand.
 pub fn fills(area: &mut [u64], p: Layout) -> Answer
     requires { ⌜ Ready p (now area) × (memory-of p (now area) writer-phase ≡ 2) ⌝ }
@@ -63,14 +57,15 @@ pub fn fills(area: &mut [u64], p: Layout) -> Answer
         ≡ carried p (p .n) (now (area .entry)) (accept (fills (memory-of p (now (area .entry)))) false) ⌝ }
 {
     let seen: &[u64] = area;
-    let hand = fields::writer_field(seen, p, Layout::IN_HAND);
+    let hand = fields::writer_field(seen, p, Layout::IN_HAND) as usize;
     let pos = fields::writer_field(seen, p, Layout::WRITER_POS);
     let len = fields::writer_field(seen, p, Layout::WRITER_LEN);
     let word = records::write_record_word(seen, p, pos as usize);
     let next = pos + 1;
-    stores::set_contents(area, p, hand as usize, pos as usize, word);
+    let phase = if next == len { 3 } else { 2 };
+    stores::set_contents(area, p, hand, pos as usize, word);
     stores::set_writer_field(area, p, Layout::WRITER_POS, next);
-    stores::set_writer_field(area, p, Layout::WRITER_PHASE, copy_phase(next == len));
+    stores::set_writer_field(area, p, Layout::WRITER_PHASE, phase);
     answer::accepted()
 }
 

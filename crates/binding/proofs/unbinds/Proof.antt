@@ -1,5 +1,6 @@
 -- `unbinds` meets its contract: the slot is the area's, and each way through has its law. Assumes nothing.
 use borrow.Author.Needs.{needs}
+use native.Mathlib.Omega.{arith}
 use Rattle.area.specs.Words.{memory-of}
 use Rattle.answer.proofs.Stored.{still-sized, bound-slot}
 use Rattle.binding.proofs.Binding.{all-gone, unbound}
@@ -19,7 +20,14 @@ same-length : tie.Need-same-length
 same-length c = search needs
 
 returns : tie.Need-returns
-returns c = search all-gone
+returns c =
+    let full = c .before in
+    let gone = full .before in
+    let slot = gone .before in
+    let start = slot .before .before .before in
+    let m = memory-of (start .args .p) (start .args .area .now) in
+    all-gone (start .args .p) (start .args .r) (start .args .area .now) m (slot .desk-field .ensures)
+    (gone .slot-field .ensures) (omega (arith, full .if1 .taken)) (c .refusal .ensures)
 
 add-set-slot-field : tie.Need-add-set-slot-field
 add-set-slot-field c = search needs

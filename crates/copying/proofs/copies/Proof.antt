@@ -20,9 +20,11 @@ desk-field-requires-3 c κs = search needs
 contents-word-requires : tie.Need-contents-word-requires
 contents-word-requires c κs =
     let pos = c .before in
-    let slot = pos .before in
-    let start = slot .before .before .before in
-    (start .pre .0 .sized, bound-slot (start .pre .0) (start .pre .1) (slot .desk-field .ensures), word-there (start .pre .0) (start .pre .1) (start .pre .2) (pos .desk-field2 .ensures))
+    let start = pos .before .before .before .before in (
+      start .pre .0 .sized,
+      search (needs, bound-slot),
+      word-there (start .pre .0) (start .pre .1) (start .pre .2) (pos .desk-field2 .ensures),
+    )
 
 add-next : tie.Need-add-next
 add-next c =
@@ -33,8 +35,11 @@ add-next c =
 set-read-record-requires : tie.Need-set-read-record-requires
 set-read-record-requires c κs =
     let pos = c .before .before .before in
-    let start = pos .before .before .before .before in
-    (start .pre .0 .sized, start .pre .1, word-there (start .pre .0) (start .pre .1) (start .pre .2) (pos .desk-field2 .ensures))
+    let start = pos .before .before .before .before in (
+      start .pre .0 .sized,
+      start .pre .1,
+      word-there (start .pre .0) (start .pre .1) (start .pre .2) (pos .desk-field2 .ensures),
+    )
 
 set-desk-field-requires : tie.Need-set-desk-field-requires
 set-desk-field-requires c κs =
@@ -46,8 +51,10 @@ finishes-requires : tie.Need-finishes-requires
 finishes-requires c κs =
     let second = c .before .before .before .before in
     let first = second .before .before .before .before in
-    let start = first .before .before .before .before .before .before .before .before in
-    (still-sized (start .pre .0 .sized) (second .set-desk-field .kept .0 ∙ first .set-read-record .kept .0), start .pre .1)
+    let start = first .before .before .before .before .before .before .before .before in (
+      still-sized (start .pre .0 .sized) (second .set-desk-field .kept .0 ∙ first .set-read-record .kept .0),
+      start .pre .1,
+    )
 
 same-length : tie.Need-same-length
 same-length c =

@@ -1,6 +1,7 @@
 -- `looks` meets its contract: each way through it is a plan of step 1. Assumes nothing.
 use borrow.Author.Needs.{needs}
-use Rattle.filling.proofs.Filling.{picked, none-free, passed-by}
+use mathlib.Core.Logic.{⊎-elim}
+use Rattle.filling.proofs.Filling.{copy-done, copy-on, picked, none-free, passed-by}
 use Rattle.filling.proofs.looks.Statement.{statement}
 use Rattle.filling.proofs.looks.Tie as tie
 
@@ -12,9 +13,6 @@ writer-field-requires-2 c κs = search needs
 
 free-requires : tie.Need-free-requires
 free-requires c κs = search needs
-
-copy-phase-requires : tie.Need-copy-phase-requires
-copy-phase-requires c κs = search needs
 
 set-writer-field-requires : tie.Need-set-writer-field-requires
 set-writer-field-requires c κs = search needs
@@ -28,18 +26,19 @@ same-length c = search needs
 returns : tie.Need-returns
 returns c =
     let first = c .before .before .before in
-    let phase = first .before in
-    let found = phase .before .before in
+    let phase = first .before .before in
+    let found = phase .before in
     let test = found .before in
     let len = test .before in
     let hand = len .before in
     let start = hand .before .before .before in
     picked (start .args .p) (start .args .area .now) (hand .writer-field .ensures) (len .writer-field2 .ensures)
-    (test .free .ensures) (found .if1 .taken) (phase .copy-phase .ensures) (first .set-writer-field .ensures)
-    (c .accepted .ensures)
+    (test .free .ensures) (found .if1 .taken)
+    (⊎-elim (λ w. copy-done (w .0 .taken) (w .1)) (λ w. copy-on (w .0 .left) (w .1)) (phase .if2 .came))
+    (first .set-writer-field .ensures) (c .accepted .ensures)
 
-add-if2 : tie.Need-add-if2
-add-if2 c = search needs
+add-if3 : tie.Need-add-if3
+add-if3 c = search needs
 
 refusal-requires : tie.Need-refusal-requires
 refusal-requires c κs = search needs
@@ -55,7 +54,7 @@ returns-2 c =
     let hand = test .before .before in
     let start = hand .before .before .before in
     none-free (start .args .p) (start .args .area .now) (hand .writer-field .ensures) (test .free .ensures)
-    (taken .if1 .left) (end .if2 .taken) (c .refusal .ensures)
+    (taken .if1 .left) (end .if3 .taken) (c .refusal .ensures)
 
 add-set-writer-field : tie.Need-add-set-writer-field
 add-set-writer-field c = search needs
@@ -78,7 +77,7 @@ returns-3 c =
     let hand = test .before .before in
     let start = hand .before .before .before in
     passed-by (start .args .p) (start .args .area .now) (hand .writer-field .ensures) (test .free .ensures)
-    (taken .if1 .left) (more .if2 .left) (first .set-writer-field2 .ensures) (c .accepted2 .ensures)
+    (taken .if1 .left) (more .if3 .left) (first .set-writer-field2 .ensures) (c .accepted2 .ensures)
 
 pub looks-spec : {M : Type 1} → statement M
 looks-spec =
@@ -87,12 +86,11 @@ looks-spec =
     writer-field-requires
     writer-field-requires-2
     free-requires
-    copy-phase-requires
     set-writer-field-requires
     accepted-requires
     same-length
     returns
-    add-if2
+    add-if3
     refusal-requires
     same-length-2
     returns-2

@@ -31,15 +31,20 @@ set-slot-field-requires-2 : tie.Need-set-slot-field-requires-2
 set-slot-field-requires-2 c κs =
     let first = c .before .before .before in
     let hand = first .before .before .before .before in
-    let start = hand .before .before .before in
-    (still-sized (start .pre .0 .sized) (first .set-slot-field .kept .0), hand-slot (start .pre .0) (hand .writer-field .ensures), search needs)
+    let start = hand .before .before .before in (
+      still-sized (start .pre .0 .sized) (first .set-slot-field .kept .0),
+      hand-slot (start .pre .0) (hand .writer-field .ensures),
+      search needs,
+    )
 
 set-writer-field-requires : tie.Need-set-writer-field-requires
 set-writer-field-requires c κs =
     let second = c .before .before .before in
     let first = second .before .before .before .before in
-    let start = first .before .before .before .before .before .before .before in
-    (still-sized (start .pre .0 .sized) (second .set-slot-field2 .kept .0 ∙ first .set-slot-field .kept .0), search needs)
+    let start = first .before .before .before .before .before .before .before in (
+      still-sized (start .pre .0 .sized) (second .set-slot-field2 .kept .0 ∙ first .set-slot-field .kept .0),
+      search needs,
+    )
 
 accepted-requires : tie.Need-accepted-requires
 accepted-requires c κs = search needs

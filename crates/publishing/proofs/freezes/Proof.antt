@@ -33,23 +33,30 @@ set-writer-field-requires c κs =
 
 add-set-writer-field : tie.Need-add-set-writer-field
 add-set-writer-field c =
-    let start = c .before .before .before .before .before .before .before .before .before .before .before .before .before .before .before .before in
+    let second = c .before .before .before in
+    let first = second .before .before .before .before in
+    let start = first .before .before .before .before .before .before .before .before .before in
     omega (arith, start .pre .0 .sound .writer .room (start .pre .1))
 
 set-writer-field-requires-2 : tie.Need-set-writer-field-requires-2
 set-writer-field-requires-2 c κs =
     let second = c .before .before .before in
     let first = second .before .before .before .before in
-    let start = first .before .before .before .before .before .before .before .before .before in
-    (still-sized (start .pre .0 .sized) (second .set-writer-field .kept .0 ∙ first .set-slot-field .kept .0), search needs)
+    let start = first .before .before .before .before .before .before .before .before .before in (
+      still-sized (start .pre .0 .sized) (second .set-writer-field .kept .0 ∙ first .set-slot-field .kept .0),
+      search needs,
+    )
 
 set-writer-field-requires-3 : tie.Need-set-writer-field-requires-3
 set-writer-field-requires-3 c κs =
     let third = c .before .before .before in
     let second = third .before .before .before .before in
     let first = second .before .before .before .before in
-    let start = first .before .before .before .before .before .before .before .before .before in
-    (still-sized (start .pre .0 .sized) (third .set-writer-field2 .kept .0 ∙ second .set-writer-field .kept .0 ∙ first .set-slot-field .kept .0), search needs)
+    let start = first .before .before .before .before .before .before .before .before .before in (
+      still-sized (start .pre .0 .sized)
+          (third .set-writer-field2 .kept .0 ∙ second .set-writer-field .kept .0 ∙ first .set-slot-field .kept .0),
+      search needs,
+    )
 
 same-length : tie.Need-same-length
 same-length c =

@@ -27,8 +27,11 @@ set-writer-field-requires-4 c κs =
     let third = c .before .before .before in
     let second = third .before .before .before .before in
     let first = second .before .before .before .before in
-    let start = first .before .before .before .before in
-    (still-sized (start .pre) (third .set-writer-field3 .kept .0 ∙ second .set-writer-field2 .kept .0 ∙ first .set-writer-field .kept .0), search needs)
+    let start = first .before .before .before .before in (
+      still-sized (start .pre)
+          (third .set-writer-field3 .kept .0 ∙ second .set-writer-field2 .kept .0 ∙ first .set-writer-field .kept .0),
+      search needs,
+    )
 
 same-length : tie.Need-same-length
 same-length c =

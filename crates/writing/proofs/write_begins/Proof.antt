@@ -59,10 +59,7 @@ returns-3 c =
     (c .refusal3 .ensures)
 
 copies-in-requires : tie.Need-copies-in-requires
-copies-in-requires c κs =
-    let fits = c .before .before .before in
-    let start = fits .before .before .before .before .before .before in
-    (start .pre .sized, fits .if1 .left)
+copies-in-requires c κs = search needs
 
 sets-out-requires : tie.Need-sets-out-requires
 sets-out-requires c κs =
