@@ -1,5 +1,6 @@
 -- `rests` meets its contract: its tests are those of the reader. Assumes nothing.
 use borrow.Author.Needs.{needs}
+use native.Mathlib.Omega.{arith}
 use Rattle.area.specs.Words.{memory-of}
 use Rattle.place.proofs.Resting.{no-reader, reader-rests}
 use Rattle.place.proofs.rests.Statement.{statement}
@@ -8,7 +9,7 @@ use Rattle.place.proofs.rests.Tie as tie
 returns : tie.Need-returns
 returns c =
     let b = c .before .before .args in
-    no-reader (b .p .n) (memory-of (b .p) (b .area .now)) (b .reader) (c .if1 .taken)
+    no-reader (b .p .n) (memory-of (b .p) (b .area .now)) (b .reader) (omega (arith, c .if1 .taken))
 
 desk-field-requires : tie.Need-desk-field-requires
 desk-field-requires c κs = search needs

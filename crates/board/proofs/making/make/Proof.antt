@@ -1,5 +1,6 @@
 -- `making::make` meets its contract: the test comes first, and behind it the words are filled. Assumes nothing.
 use borrow.Author.Needs.{needs}
+use native.Mathlib.Omega.{arith}
 use Rattle.board.proofs.Made.{made-refused, fits, made-sized, made-well}
 use Rattle.board.proofs.making.make.Statement.{statement}
 use Rattle.board.proofs.making.make.Tie as tie
@@ -13,7 +14,7 @@ refusal-requires c κs = search needs
 returns : tie.Need-returns
 returns c =
     let t = c .before .before in
-    made-refused _ _ _ _ _ (t .tested .ensures) (c .before .if1 .taken) (c .refusal .ensures)
+    made-refused _ _ _ _ _ (t .tested .ensures) (λ z. omega (arith, c .before .if1 .taken, z)) (c .refusal .ensures)
 
 new-requires : tie.Need-new-requires
 new-requires c κs =
