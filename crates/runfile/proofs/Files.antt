@@ -1,6 +1,6 @@
 -- Run files by their tests: what one that passed has, and what the tests of the code decide. Assumes nothing.
 use mathlib.Core.Path.{_≡_, refl, sym, ap, _∙_}
-use mathlib.Core.Bool.{Bool, true, false, _&&_}
+use mathlib.Core.Bool.{Bool, true, false, _&&_, and-true, and-assoc}
 use mathlib.Core.List.{List, [], _∷_, _++_}
 use Prim.Native.Nat.{ℕ, _+_, _*_, _≤_}
 use native.Mathlib.Omega.{arith}
@@ -71,17 +71,9 @@ abbrev joined : Bool → List Bool → Bool
 joined t [] = t
 joined t (x ∷ l) = joined (t && x) l
 
-one-alone : (t : Bool) → t ≡ t && true
-one-alone true = refl
-one-alone false = refl
-
-regrouped : (t x y : Bool) → (t && x) && y ≡ t && (x && y)
-regrouped true x y = refl
-regrouped false x y = refl
-
 joined-all : (t : Bool) (l : List Bool) → joined t l ≡ all (t ∷ l)
-joined-all t [] = one-alone t
-joined-all t (x ∷ l) = joined-all (t && x) l ∙ regrouped t x (all l)
+joined-all t [] = sym (and-true t)
+joined-all t (x ∷ l) = joined-all (t && x) l ∙ and-assoc t x (all l)
 
 all-joined : (l k : List Bool) → all (l ++ k) ≡ all l && all k
 all-joined [] k = refl
@@ -121,7 +113,7 @@ pub file-tested : (b : List ℕ) (s t : Bool) → s ≡ all (size-tests b) → t
     → leb header-bytes (length b) && s && t ≡ is-run-file b
 unfolding is-run-file
 file-tested b s t e d =
-    regrouped (leb header-bytes (length b)) s t
+    and-assoc (leb header-bytes (length b)) s t
     ∙ ap (λ x. leb header-bytes (length b) && (x && t)) e
     ∙ ap (λ x. leb header-bytes (length b) && (all (size-tests b) && x)) d
     ∙ ap (λ x. leb header-bytes (length b) && x) (sym (all-joined (size-tests b) (part-tests b)))
