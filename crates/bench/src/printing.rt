@@ -97,7 +97,7 @@ fn put_moves(file: &[u8], area: &mut [u64], out: &mut [u8], at: usize) -> usize
     };
     let mut i = 0;
     while i < h.moves {
-        g = put_next(file, i, area, out, g);
+        g = put_next(file, h.n as u64, i, area, out, g);
         i += 1;
     }
     put_last(out, g.end, area, g.tally)
@@ -105,13 +105,11 @@ fn put_moves(file: &[u8], area: &mut [u64], out: &mut [u8], at: usize) -> usize
 
 // Plays move i and puts its line. It is decoded here, once; one that is malformed is refused by 12, printed like any
 // other, and the run goes on.
-fn put_next(file: &[u8], i: u32, area: &mut [u64], out: &mut [u8], g: Progress) -> Progress
-    requires { ⌜ Room (g .tally) ⌝ }
+fn put_next(file: &[u8], n: u64, i: u32, area: &mut [u64], out: &mut [u8], g: Progress) -> Progress
+    requires { ⌜ (n ≡ readers (now file)) × Room (g .tally) ⌝ }
     ensures { λ r. ⌜ as-course (now (area .exit)) (now (out .exit)) r
         ≡ course-after (now (file .entry)) i (as-course (now (area .entry)) (now (out .entry)) g) ⌝ }
 {
-    let h = file::header(file);
-    let n = h.n as u64;
     let w = moves::written_move(file, i);
     let asked = moves::asked(n, w.process, w.kind, w.len);
     let Asked::Call(call) = asked else {

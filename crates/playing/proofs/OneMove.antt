@@ -1,11 +1,12 @@
 -- One move of a run file, one law for each way through the code. Assumes nothing.
-use mathlib.Core.Path.{_≡_, refl, sym, ap, _∙_}
-use mathlib.Core.Bool.{Bool, true, false}
+use mathlib.Core.Path.{_≡_, refl, sym, ap, subst, _∙_}
+use mathlib.Core.Bool.{Bool, true, false, cond}
 use mathlib.Core.List.{List}
-use Prim.Native.Nat.{ℕ, _+_, _≤_, _<_, min}
+use Prim.Native.Nat.{ℕ, _+_, _-_, _≤_, _<_, min}
 use native.Mathlib.Decide.{ℕ-discrete}
 use native.Mathlib.Omega.{arith}
-use borrow.Author.Tests.{le-leb, lt-leb, eq-eqb, ne-eqb}
+use borrow.Author.Tests.{leb-true, leb-false, le-leb, lt-leb}
+use lib.Dec.{T, eqb, leb}
 use lib.ListN.{length, take, replicate}
 use Rattle.register.specs.Place.{Record}
 use Rattle.register.specs.Area.{is-area, capacity}
@@ -24,9 +25,31 @@ use Rattle.playing.specs.Code.{as-outcome, state, one-too-many}
 use Rattle.playing.specs.declared.types.Played.{Played}
 use Rattle.playing.proofs.Values.{place, words-length, front-words}
 
--- the count of values of a header that was read
-pub its-values : (b : List ℕ) {h : Header} → h ≡ header-of b → h .values ≡ values b
-its-values b e = ap (λ h. h .values) e
+-- ---- how many values are left
+
+-- fewer than are wanted
+pub too-few : (b : List ℕ) (h : Header) (used len : ℕ) → h ≡ header-of b → h .values < len
+    → (false ≡ leb (used + len) (values b)) × (false ≡ true → used + len ≤ 4294967295)
+too-few b h used len e less =
+    (sym (lt-leb (used + len) (values b) (omega (arith, ap (λ z. z .values) e))), λ d. absurd (subst T (sym d) tt))
+
+-- what is left decides
+pub left-decides : (b : List ℕ) (h : Header) (used len : ℕ) → h ≡ header-of b → len ≤ h .values
+    → h .values ≤ 4294967295
+    → (leb used (h .values - len) ≡ leb (used + len) (values b))
+    × (leb used (h .values - len) ≡ true → used + len ≤ 4294967295)
+left-decides b h used len e enough small =
+    (go (leb used (h .values - len)) refl, λ d. omega (arith, leb-true used (h .values - len) d))
+  where
+    go : (t : Bool) → leb used (h .values - len) ≡ t → t ≡ leb (used + len) (values b)
+    go true d =
+        sym (le-leb (used + len) (values b)
+        (omega (arith, leb-true used (h .values - len) d, ap (λ z. z .values) e)))
+    go false d =
+        sym (lt-leb (used + len) (values b)
+        (omega (arith, leb-false used (h .values - len) d, ap (λ z. z .values) e)))
+
+-- ---- a begin of a write
 
 -- what the code returns of a call
 abbrev pub tell : Returned → ℕ → Played
@@ -66,35 +89,25 @@ cut a b i k len e = go (ℕ-discrete k len)
 
 module _ (b a : List ℕ) (used len : ℕ) (x : Played) (r : Returned) where
   -- more values are wanted than are left
-  pub write-13 : r ≡ record { number = 13; ended = false; age = 0 } → x ≡ tell r used → values b < used + len
+  pub write-13 : leb (used + len) (values b) ≡ false → r ≡ record { number = 13; ended = false; age = 0 }
+      → x ≡ tell r used
       → as-outcome x a ≡ outcome b (state a used) (values-for len)
-  write-13 e d h =
-      told x r used a {v = used + 0} d (ap (λ z. whole z a) e) (omega arith)
-      ∙ sym (rw (lt-leb (used + len) (values b) h))
+  write-13 h e d = told x r used a {v = used + 0} d (ap (λ z. whole z a) e) (omega arith) ∙ sym (rw h)
 
-  module _ (a′ l : List ℕ) (k : ℕ) (enough : used + len ≤ values b) (short : k ≡ min len one-too-many)
-      (full : l ≡ pasted (replicate one-too-many 0) 0 (words-at k b (place b used)))
-      (called : whole r a′ ≡ answered a (write (take k l))) where
-    its-answer : whole r a′ ≡ answered a (write (words-at len b (place b used)))
-    its-answer =
-        called ∙ ap (λ u. answered a (write u)) (front-words one-too-many k b (place b used) l (omega arith) full)
-        ∙ cut a b (place b used) k len short
-
-    -- accepted, the values are used up
-    pub write-accepted : r .number ≡ 0 → x ≡ tell r (used + len)
-        → as-outcome x a′ ≡ outcome b (state a used) (values-for len)
-    write-accepted e d =
-        let zero-answered = eq-eqb _ 0 (sym (ap (λ y. y .number) its-answer) ∙ e) in
-        told x r (used + len) a′ d its-answer refl
-        ∙ sym (rw (le-leb (used + len) (values b) enough, zero-answered))
-
-    -- refused, none is
-    pub write-refused : (r .number ≡ 0 → ⊥) → x ≡ tell r used
-        → as-outcome x a′ ≡ outcome b (state a used) (values-for len)
-    write-refused e d =
-        let other-answered = ne-eqb _ 0 (λ z. e (ap (λ y. y .number) its-answer ∙ z)) in
-        told x r used a′ {v = used + 0} d its-answer (omega arith)
-        ∙ sym (rw (le-leb (used + len) (values b) enough, other-answered))
+  -- the next values are written; accepted, they are used up
+  pub write-called : (a′ l : List ℕ) (k u : ℕ) → leb (used + len) (values b) ≡ true → k ≡ min len one-too-many
+      → l ≡ pasted (replicate one-too-many 0) 0 (words-at k b (place b used))
+      → whole r a′ ≡ answered a (write (take k l))
+      → u ≡ used + cond (eqb (r .number) 0) len 0 → x ≡ tell r u
+      → as-outcome x a′ ≡ outcome b (state a used) (values-for len)
+  write-called a′ l k u h short full called up d =
+      told x r u a′ d its-answer (up ∙ ap (λ y. used + cond (eqb (y .number) 0) len 0) its-answer) ∙ sym (rw h)
+    where
+      its-answer : whole r a′ ≡ answered a (write (words-at len b (place b used)))
+      its-answer =
+          called
+          ∙ ap (λ v. answered a (write v)) (front-words one-too-many k b (place b used) l (omega arith) full)
+          ∙ cut a b (place b used) k len short
 
 -- ---- the other ways
 

@@ -7,9 +7,11 @@ use board::steps;
 use board::writes;
 use runfile::file;
 use runfile::types::Call;
+ghost use mathlib.Core.Bool.{true, cond};
 ghost use mathlib.Core.Path.{_≡_};
-ghost use Prim.Native.Nat.{min};
-ghost use Rattle.runfile.specs.RunFile.{values-for};
+ghost use Prim.Native.Nat.{_+_, _≤_, min};
+ghost use lib.Dec.{eqb, leb};
+ghost use Rattle.runfile.specs.RunFile.{values, values-for};
 ghost use Rattle.runfile.specs.Code.{as-call};
 ghost use Rattle.playing.specs.Play.{outcome};
 ghost use Rattle.playing.specs.Code.{as-outcome, state, one-too-many};
@@ -35,22 +37,35 @@ fn play_write(file: &[u8], len: u64, area: &mut [u64], used: u64) -> Played
     ensures { λ x. ⌜ as-outcome x (now (area .exit))
         ≡ outcome (now (file .entry)) (state (now (area .entry)) used) (values-for len) ⌝ }
 {
-    let h = file::header(file);
-    let values = h.values as u64;
-    if values < len {
-        return told(answer::refusal(13), used);
-    }
-    if values - len < used {
+    if !enough_left(file, used, len) {
         return told(answer::refusal(13), used);
     }
     let mut words = [0u64; ONE_TOO_MANY];
     let k = words_enough(len);
     take_values(file, used as u32, &mut words, k);
     let x = writes::begin_write(area, &words[..k]);
-    if x.number == 0 {
-        return told(x, used + len);
+    told(x, used_then(x.number, used, len))
+}
+
+// Whether so many values are left.
+fn enough_left(file: &[u8], used: u64, len: u64) -> bool
+    ensures { λ r. ⌜ r ≡ leb (used + len) (values (now (file .entry))) ⌝ }
+    ensures { λ r. ⌜ (r ≡ true → used + len ≤ 4294967295) ⌝ }
+{
+    let h = file::header(file);
+    let count = h.values as u64;
+    if count < len {
+        return false;
     }
-    told(x, used)
+    used <= count - len
+}
+
+// How many values are used up once a begin of a write was answered: an accepted one uses up its own.
+fn used_then(number: u64, used: u64, len: u64) -> u64
+    requires { ⌜ used + len ≤ 4294967295 ⌝ }
+    ensures { λ r. ⌜ r ≡ used + cond (eqb number 0) len 0 ⌝ }
+{
+    if number == 0 { used + len } else { used }
 }
 
 // How many words of a record tell whether it is too long: all of them, or one more than any C.

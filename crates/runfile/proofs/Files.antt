@@ -1,12 +1,11 @@
--- Run files by their tests: what one that passed has, and what each test of the code decides. Assumes nothing.
-use mathlib.Core.Path.{_≡_, refl, sym, ap, subst, _∙_}
-use mathlib.Core.Bool.{Bool, true, false, _&&_}
+-- Run files by their tests: what one that passed has, and what the tests of the code decide. Assumes nothing.
+use mathlib.Core.Path.{_≡_, refl, sym, ap, _∙_}
+use mathlib.Core.Bool.{Bool, true, false, _&&_, and-true, and-assoc}
 use mathlib.Core.List.{List, [], _∷_, _++_}
-use Prim.Native.Nat.{ℕ, zero, suc, _+_, _*_, _≤_, _<_}
+use Prim.Native.Nat.{ℕ, _+_, _*_, _≤_}
 use native.Mathlib.Omega.{arith}
-use borrow.Author.Tests.{le-leb, lt-leb, eq-eqb, ne-eqb}
 use lib.Dec.{T, eqb, leb, leb→le, eqb→eq}
-use lib.ListN.{length, take, getD}
+use lib.ListN.{length, getD}
 use Rattle.register.specs.Area.{all}
 use Rattle.register.specs.Lists.{Each, none, also}
 use Rattle.register.proofs.Tests.{true-passes, each-passes}
@@ -54,113 +53,54 @@ move-read b k process kind len p q l =
 
 -- ---- lists of tests
 
--- one that fails fails them all
-fails : (l : List Bool) (k : ℕ) → getD l k true ≡ false → false ≡ all l
-fails [] k e = sym e
-fails (true ∷ l) zero e = absurd (subst T e tt)
-fails (false ∷ l) zero e = refl
-fails (true ∷ l) (suc k) e = fails l k e
-fails (false ∷ l) (suc k) e = refl
+-- tests as the code joins them, one behind another
+abbrev joined : Bool → List Bool → Bool
+joined t [] = t
+joined t (x ∷ l) = joined (t && x) l
 
--- behind those that pass the last one decides
-last-decides : (l : List Bool) (t : Bool) → Each (λ x. x ≡ true) l → t ≡ all (l ++ (t ∷ []))
-last-decides [] true none = refl
-last-decides [] false none = refl
-last-decides (x ∷ l) t (also e rest) = rw e (last-decides l t rest)
+joined-all : (t : Bool) (l : List Bool) → joined t l ≡ all (t ∷ l)
+joined-all t [] = sym (and-true t)
+joined-all t (x ∷ l) = joined-all (t && x) l ∙ and-assoc t x (all l)
 
 all-joined : (l k : List Bool) → all (l ++ k) ≡ all l && all k
 all-joined [] k = refl
 all-joined (true ∷ l) k = all-joined l k
 all-joined (false ∷ l) k = refl
 
--- ---- the header as the code has read it
+-- ---- the tests of the code, on the header that it has read
+
+-- N, C and the starting length, behind the first test
+abbrev sizes-behind : Header → List Bool
+sizes-behind h = leb (h .n) 8 ∷ leb 1 (h .c) ∷ leb (h .c) 32 ∷ leb (h .starting) (h .c) ∷ []
+
+-- the moves, the values and their places, behind the first test
+abbrev parts-behind : Header → ℕ → List Bool
+parts-behind h k =
+    eqb (h .«moves_at») header-bytes
+    ∷ leb (h .values) 1000
+    ∷ leb (h .starting) (h .values)
+    ∷ eqb (h .«values_at») (header-bytes + 4 * h .moves)
+    ∷ eqb k (header-bytes + 4 * h .moves + 8 * h .values)
+    ∷ []
 
 module _ (b : List ℕ) (h : Header) (head : h ≡ header-of b) where
-  the-n : h .n ≡ readers b
-  the-n = ap (λ z. z .n) head
+  pub sizes-tested : joined (leb 1 (h .n)) (sizes-behind h) ≡ all (size-tests b)
+  sizes-tested =
+      ap (λ z. joined (leb 1 (z .n)) (sizes-behind z)) head
+      ∙ joined-all (leb 1 (readers b)) (sizes-behind (header-of b))
 
-  the-c : h .c ≡ capacity b
-  the-c = ap (λ z. z .c) head
+  pub parts-tested : (k : ℕ) → k ≡ length b → joined (leb (h .moves) 4000) (parts-behind h k) ≡ all (part-tests b)
+  parts-tested k e =
+      ap (λ z. joined (leb (z .moves) 4000) (parts-behind z k)) head
+      ∙ ap (λ i. joined (leb (moves b) 4000) (parts-behind (header-of b) i)) e
+      ∙ joined-all (leb (moves b) 4000) (parts-behind (header-of b) (length b))
 
-  the-starting : h .starting ≡ starting-length b
-  the-starting = ap (λ z. z .starting) head
-
-  the-moves : h .moves ≡ moves b
-  the-moves = ap (λ z. z .moves) head
-
-  the-values : h .values ≡ values b
-  the-values = ap (λ z. z .values) head
-
-  -- N, C and the starting length
-  pub no-readers : h .n < 1 → false ≡ all (size-tests b)
-  no-readers l = fails (size-tests b) 0 (lt-leb 1 (readers b) (omega (arith, the-n)))
-
-  pub many-readers : 8 < h .n → false ≡ all (size-tests b)
-  many-readers l = fails (size-tests b) 1 (lt-leb (readers b) 8 (omega (arith, the-n)))
-
-  pub no-words : h .c < 1 → false ≡ all (size-tests b)
-  no-words l = fails (size-tests b) 2 (lt-leb 1 (capacity b) (omega (arith, the-c)))
-
-  pub many-words : 32 < h .c → false ≡ all (size-tests b)
-  many-words l = fails (size-tests b) 3 (lt-leb (capacity b) 32 (omega (arith, the-c)))
-
-  pub sizes-end : 1 ≤ h .n → h .n ≤ 8 → 1 ≤ h .c → h .c ≤ 32 → leb (h .starting) (h .c) ≡ all (size-tests b)
-  sizes-end n1 n8 c1 c32 =
-      let same : leb (h .starting) (h .c) ≡ leb (starting-length b) (capacity b) = rw (the-starting, the-c) in
-      same
-      ∙ last-decides (take 4 (size-tests b)) (leb (starting-length b) (capacity b))
-      (also (le-leb 1 (readers b) (omega (arith, the-n))) (also (le-leb (readers b) 8 (omega (arith, the-n)))
-      (also (le-leb 1 (capacity b) (omega (arith, the-c)))
-      (also (le-leb (capacity b) 32 (omega (arith, the-c))) none))))
-
-  -- the moves, the values and their places
-  pub many-moves : 4000 < h .moves → false ≡ all (part-tests b)
-  many-moves l = fails (part-tests b) 0 (lt-leb (moves b) 4000 (omega (arith, the-moves)))
-
-  pub moves-misplaced : (h .«moves_at» ≡ header-bytes → ⊥) → false ≡ all (part-tests b)
-  moves-misplaced d =
-      fails (part-tests b) 1 (ne-eqb (moves-at b) header-bytes (λ z. d (ap (λ y. y .«moves_at») head ∙ z)))
-
-  pub many-values : 1000 < h .values → false ≡ all (part-tests b)
-  many-values l = fails (part-tests b) 2 (lt-leb (values b) 1000 (omega (arith, the-values)))
-
-  pub not-recorded : h .values < h .starting → false ≡ all (part-tests b)
-  not-recorded l =
-      fails (part-tests b) 3 (lt-leb (starting-length b) (values b) (omega (arith, the-values, the-starting)))
-
-  pub values-misplaced : (h .«values_at» ≡ header-bytes + 4 * h .moves → ⊥) → false ≡ all (part-tests b)
-  values-misplaced d =
-      fails (part-tests b) 4 (ne-eqb (values-at b) (header-bytes + 4 * moves b)
-      (λ z. d (omega (arith, z, the-moves, ap (λ y. y .«values_at») head))))
-
-  pub parts-end : (k : ℕ) → k ≡ length b → h .moves ≤ 4000 → h .«moves_at» ≡ header-bytes → h .values ≤ 1000
-      → h .starting ≤ h .values → h .«values_at» ≡ header-bytes + 4 * h .moves
-      → eqb k (header-bytes + 4 * h .moves + 8 * h .values) ≡ all (part-tests b)
-  parts-end k many few placed some recorded behind =
-      let last = eqb (length b) (header-bytes + 4 * moves b + 8 * values b) in
-      let same : eqb k (header-bytes + 4 * h .moves + 8 * h .values) ≡ last = rw (many, the-moves, the-values) in
-      same
-      ∙ last-decides (take 5 (part-tests b)) last
-      (also (le-leb (moves b) 4000 (omega (arith, the-moves)))
-      (also (eq-eqb (moves-at b) header-bytes (sym (ap (λ y. y .«moves_at») head) ∙ placed))
-      (also (le-leb (values b) 1000 (omega (arith, the-values)))
-      (also (le-leb (starting-length b) (values b) (omega (arith, the-values, the-starting)))
-      (also (eq-eqb (values-at b) (header-bytes + 4 * moves b)
-      (omega (arith, the-moves, ap (λ y. y .«values_at») head))) none)))))
-
--- ---- the whole test
-
-module _ (b : List ℕ) where
-  in-three : is-run-file b ≡ leb header-bytes (length b) && (all (size-tests b) && all (part-tests b))
-  unfolding is-run-file
-  in-three = ap (λ x. leb header-bytes (length b) && x) (all-joined (size-tests b) (part-tests b))
-
-  pub too-short : length b < header-bytes → false ≡ is-run-file b
-  too-short h = sym (rw (in-three, lt-leb header-bytes (length b) h))
-
-  pub sizes-fail : (r : Bool) → header-bytes ≤ length b → r ≡ all (size-tests b) → r ≡ false → r ≡ is-run-file b
-  sizes-fail r h e f = f ∙ sym (rw (in-three, le-leb header-bytes (length b) h, ← e, f))
-
-  pub parts-decide : (s r : Bool) → header-bytes ≤ length b → s ≡ all (size-tests b) → s ≡ true
-      → r ≡ all (part-tests b) → r ≡ is-run-file b
-  parts-decide s r h e t d = d ∙ sym (rw (in-three, le-leb header-bytes (length b) h, ← e, t))
+-- the whole test
+pub file-tested : (b : List ℕ) (s t : Bool) → s ≡ all (size-tests b) → t ≡ all (part-tests b)
+    → leb header-bytes (length b) && s && t ≡ is-run-file b
+unfolding is-run-file
+file-tested b s t e d =
+    and-assoc (leb header-bytes (length b)) s t
+    ∙ ap (λ x. leb header-bytes (length b) && (x && t)) e
+    ∙ ap (λ x. leb header-bytes (length b) && (all (size-tests b) && x)) d
+    ∙ ap (λ x. leb header-bytes (length b) && x) (sym (all-joined (size-tests b) (part-tests b)))

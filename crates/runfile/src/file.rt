@@ -13,11 +13,8 @@ ghost use Rattle.runfile.specs.Code.{header-of, size-tests, part-tests};
 pub fn is_run_file(file: &[u8]) -> bool
     ensures { λ r. ⌜ r ≡ is-run-file (now (file .entry)) ⌝ }
 {
-    if file.len() < Header::BYTES {
-        return false;
-    }
     let h = header(file);
-    sizes_pass(h) && parts_pass(h, file.len())
+    (Header::BYTES <= file.len()) & sizes_pass(h) & parts_pass(h, file.len())
 }
 
 // The counts and offsets that stand in a header.
@@ -39,19 +36,7 @@ pub fn header(file: &[u8]) -> Header
 fn sizes_pass(h: Header) -> bool
     ensures { λ r. ⌜ ((b : List ℕ) → h ≡ header-of b → r ≡ all (size-tests b)) ⌝ }
 {
-    if h.n < 1 {
-        return false;
-    }
-    if 8 < h.n {
-        return false;
-    }
-    if h.c < 1 {
-        return false;
-    }
-    if 32 < h.c {
-        return false;
-    }
-    h.starting <= h.c
+    (1 <= h.n) & (h.n <= 8) & (1 <= h.c) & (h.c <= 32) & (h.starting <= h.c)
 }
 
 // Whether the moves and the values are few enough, stand where they must and fill the file.
@@ -60,20 +45,10 @@ fn parts_pass(h: Header, length: usize) -> bool
 {
     let moves = h.moves as usize;
     let values = h.values as usize;
-    if 4000 < moves {
-        return false;
-    }
-    if h.moves_at as usize != Header::BYTES {
-        return false;
-    }
-    if 1000 < values {
-        return false;
-    }
-    if h.values < h.starting {
-        return false;
-    }
-    if h.values_at as usize != Header::BYTES + 4 * moves {
-        return false;
-    }
-    length == Header::BYTES + 4 * moves + 8 * values
+    (moves <= 4000)
+        & (h.moves_at as usize == Header::BYTES)
+        & (values <= 1000)
+        & (h.starting <= h.values)
+        & (h.values_at as usize == Header::BYTES + 4 * moves)
+        & (length == Header::BYTES + 4 * moves + 8 * values)
 }

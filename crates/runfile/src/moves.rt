@@ -34,11 +34,8 @@ pub fn asked(n: u64, process: u64, kind: u64, len: u64) -> Asked
         }
         return Asked::Nothing;
     }
-    if kind != 1 {
-        return Asked::Nothing;
+    if (kind == 1) & (len == 0) {
+        return Asked::Call(Call::Step(process));
     }
-    if len != 0 {
-        return Asked::Nothing;
-    }
-    Asked::Call(Call::Step(process))
+    Asked::Nothing
 }

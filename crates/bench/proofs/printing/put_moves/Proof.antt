@@ -24,8 +24,13 @@ loop-holds c =
     let a = c .before .before .before .before .before .args in
     coursing-none (a .file .now) _ _ _ _ (ap (λ h. h .starting) (c .before .header .ensures))
 
+cast-put-next : tie.Need-cast-put-next Inv-loop μ-loop
+cast-put-next c = search needs
+
 put-next-requires : tie.Need-put-next-requires Inv-loop μ-loop
-put-next-requires c κs = coursing-room (c .before .before .before .before .loop .inv)
+put-next-requires c κs =
+    let turn = c .before .before .before .before .before in
+    (ap (λ h. h .n) (turn .before .before .header .ensures), coursing-room (turn .loop .inv))
 
 add-i : tie.Need-add-i Inv-loop μ-loop
 add-i c = search needs
@@ -36,8 +41,7 @@ loop-less c = search needs
 loop-again : tie.Need-loop-again Inv-loop μ-loop
 loop-again c =
     let play = c .before .before .before .before in
-    let turn = play .before .before .before .before .before in
-    let a = turn .before .before .before .before .before .before .args in
+    let turn = play .before .before .before .before .before .before in
     coursing-more (turn .loop .inv) _ _ _ (omega (arith, ap (λ h. h .moves) (turn .before .before .header .ensures)))
     (omega arith)
     (omega arith) (omega arith) (play .put-next .ensures)
@@ -55,7 +59,6 @@ returns : tie.Need-returns Inv-loop μ-loop
 returns c =
     let last-put = c .before .before in
     let turn = last-put .before .before .before .before .before in
-    let a = turn .before .before .before .before .before .before .args in
     coursing-done (turn .loop .inv) (omega (arith, ap (λ h. h .moves) (turn .before .before .header .ensures)))
     (last-put .put-last .ensures)
 
@@ -68,6 +71,7 @@ put-moves-spec =
     header-requires
     cast-t9
     loop-holds
+    cast-put-next
     put-next-requires
     add-i
     loop-less

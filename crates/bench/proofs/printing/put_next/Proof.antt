@@ -1,17 +1,11 @@
 -- `bench::printing::put_next` meets its contract: the move is decoded, played or refused, its line put, and the tally
 -- counted. Assumes nothing.
 use borrow.Author.Needs.{needs}
-use mathlib.Core.Path.{refl, ap}
+use mathlib.Core.Path.{refl}
 use mathlib.Core.Bool.{false}
 use Rattle.bench.proofs.Course.{malformed-on, call-on}
 use Rattle.bench.proofs.printing.put_next.Statement.{statement}
 use Rattle.bench.proofs.printing.put_next.Tie as tie
-
-header-requires : tie.Need-header-requires
-header-requires c κs = search needs
-
-cast-n : tie.Need-cast-n
-cast-n c = search needs
 
 written-move-requires : tie.Need-written-move-requires
 written-move-requires c κs = search needs
@@ -43,11 +37,11 @@ returns c =
     let match = line-put .before .before .before .before in
     let decoding = match .before in
     let write = decoding .before .written-move in
-    let head = decoding .before .before .before .header in
-    let a = decoding .before .before .before .before .before .before .before .args in
+    let start = decoding .before .before .before .before .before in
+    let a = start .args in
     malformed-on (a .file .now) (a .i) (a .area .now) (a .out .now) _ _ (a .g)
     (record { end = line-put .put-move .result; used = a .g .used; tally = c .brought-up .result })
-    (head .result .n) (write .result) (decoding .asked .result) (ap (λ h. h .n) (head .ensures)) (write .ensures)
+    (a .n) (write .result) (decoding .asked .result) (start .pre .0) (write .ensures)
     (decoding .asked .ensures) (record { number = 12; ended = false; age = 0; used = a .g .used }) refl
     (match .match .keys2) refl (line-put .put-move .ensures) refl (c .brought-up .ensures)
 
@@ -73,12 +67,12 @@ returns-2 c =
     let call = play .before .before .before .asked2 in
     let decoding = play .before .before .before .before .before in
     let write = decoding .before .written-move in
-    let head = decoding .before .before .before .header in
-    let a = decoding .before .before .before .before .before .before .before .args in
+    let start = decoding .before .before .before .before .before in
+    let a = start .args in
     let move = play .play-call in
     call-on (a .file .now) (a .i) (a .area .now) (a .out .now) _ _ (a .g)
     (record { end = line-put .put-move2 .result; used = move .result .used; tally = c .brought-up2 .result })
-    (head .result .n) (write .result) (decoding .asked .result) (ap (λ h. h .n) (head .ensures)) (write .ensures)
+    (a .n) (write .result) (decoding .asked .result) (start .pre .0) (write .ensures)
     (decoding .asked .ensures) (call .given .0 .0) (move .result) (call .given .1)
     (move .ensures) (line-put .put-move2 .ensures) refl (c .brought-up2 .ensures)
 
@@ -86,8 +80,6 @@ pub put-next-spec : {M : Type 1} → statement M
 put-next-spec =
     tie.close
     (tie.spec
-    header-requires
-    cast-n
     written-move-requires
     asked-requires
     enum-known-asked

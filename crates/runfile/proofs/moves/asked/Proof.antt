@@ -16,15 +16,10 @@ returns-3 c =
     simp (eq-eqb _ _ (c .before .before .if1 .taken), ne-eqb _ _ (c .before .if2 .left), ne-eqb _ _ (c .if3 .left))
 
 returns-4 : tie.Need-returns-4
-returns-4 c = simp (ne-eqb _ _ (c .before .if1 .left), ne-eqb _ _ (c .if4 .taken))
+returns-4 c = simp (ne-eqb _ _ (c .before .if1 .left), c .if4 .taken)
 
 returns-5 : tie.Need-returns-5
-returns-5 c =
-    simp (ne-eqb _ _ (c .before .before .if1 .left), eq-eqb _ _ (c .before .if4 .left), ne-eqb _ _ (c .if5 .taken))
-
-returns-6 : tie.Need-returns-6
-returns-6 c =
-    simp (ne-eqb _ _ (c .before .before .if1 .left), eq-eqb _ _ (c .before .if4 .left), eq-eqb _ _ (c .if5 .left))
+returns-5 c = simp (ne-eqb _ _ (c .before .if1 .left), c .if4 .left)
 
 pub asked-spec : {M : Type 1} → statement M
-asked-spec = tie.close (tie.spec returns returns-2 returns-3 returns-4 returns-5 returns-6)
+asked-spec = tie.close (tie.spec returns returns-2 returns-3 returns-4 returns-5)
