@@ -1,5 +1,6 @@
 //! A worker is paused in the middle of a read while the guard writes twice. It still gets one whole record:
 //! the one that was current when it counted itself in, with its age. Exits with 1 if what is shown is not.
+//! README.md has the lines that build it; examples/run builds and runs it.
 
 #[repr(C)]
 struct Answer {

@@ -2,9 +2,21 @@
  * words (C is 1 to 256). The readers are processes 0 to N - 1, the writer is process N. A begin starts a read
  * or a write; each board_step of its process makes one small step of it, until an answer says that it ended.
  *
- * The library is `rt staticlib board_c`, for x86-64 Linux. It is written in Rattle (crates/board_c) and
- * proved: on any input each call returns, and leaves in every word, what one definition of crates/register
- * says. The calls never allocate, never keep a pointer, print nothing, do not panic, and end.
+ * The library is libboard_c.a: `rt staticlib board_c` writes it for x86-64 Linux to target/staticlib, and
+ * twin/library for the machine it runs on to twin/target/library. A program is linked by
+ *     cc -Iinclude program.c target/staticlib/libboard_c.a
+ * and of the C library it needs memset alone. It is written in Rattle (crates/board_c) and proved: on any
+ * input each call returns, and leaves in every word, what one definition says. That of board_make, of the
+ * begins and of board_step stands in crates/register/specs/Calls.antt; board_show is `place-of` of
+ * crates/place/specs/Places.antt and board_words is `words-of` of crates/board_c/specs/Sizes.antt, and
+ * `PlacesAreShown` and `WordsAreMade` (Promises.antt beside each) tie them to what showing hands back and to
+ * what making answers. The calls never allocate, never keep a pointer, print nothing, do not panic, and end.
+ *
+ * A whole read. The loop looks at the number: a refused call ends nothing, so a loop that waits for `ended`
+ * alone would never stop.
+ *     board_answer a = board_begin_read(area, words, reader);
+ *     while (a.number == 0 && a.ended == 0) a = board_step(area, words, reader);
+ *     if (a.number == 0) { board_place p = board_show(area, words, reader); ... }
  *
  * What may be handed in: anything. Any words, damaged ones too, any form, n, c, reader and process, any
  * lengths. What is wrong is refused by its number, and a refusal changes no word. The memory alone is the
@@ -12,10 +24,19 @@
  *   - area points to `words` words and record to `len` words, both aligned to 8 bytes;
  *   - both may be read, and area may be written, for as long as the call lasts (board_show writes nothing);
  *   - record does not overlap area;
- *   - while a call runs nobody else writes record or area, nor reads area, unless the call is board_show. So
- *     no two calls on one area run at the same time: a step is indivisible here. Between two calls a process
- *     may be paused for as long as it likes, and any order of the processes' steps is safe;
+ *   - while a call runs nobody else writes record or area, nor reads area, unless the call is board_show;
  *   - where the length is 0 the pointer may be anything, NULL too: nothing is read or stored through it.
+ *
+ * One call at a time on one area: a step is indivisible here, and whoever runs the tasks sees to that. A
+ * runtime that steps its tasks on one thread has it already; one with several threads makes the calls on an
+ * area from one of them, or keeps the others out for the length of one call. Nobody takes a lock for longer:
+ * between two calls a process holds nothing, may be paused for as long as it likes, in the middle of a copy
+ * too, and nobody waits for it. Any order of the processes' steps is safe. Calls from two threads at the same
+ * time are a data race: the words are plain, a call can then answer 2, and a record can be torn unnoticed.
+ *
+ * "Undamaged" speaks of the words by which the board finds its way: header, indices, counts, phases, lengths.
+ * The words of the records, in slots and desks, and the write numbers are not tested, since any value may
+ * stand there: a word of a record that someone else altered is handed out as it is.
  */
 #ifndef BOARD_H
 #define BOARD_H

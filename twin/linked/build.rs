@@ -8,7 +8,7 @@ use std::{env, fs};
 const PARTS: [&str; 2] = ["area.rs", "board.rs"];
 
 fn main() {
-    println!("cargo::rerun-if-env-changed=BOARD_LIBRARY");
+    println!("cargo:rerun-if-env-changed=BOARD_LIBRARY");
     let here = PathBuf::from(env::var("CARGO_MANIFEST_DIR").expect("cargo names the folder"));
     let given = env::var("BOARD_LIBRARY").map(PathBuf::from);
     let library = given.unwrap_or_else(|_| here.join("../target/library"));
@@ -17,9 +17,9 @@ fn main() {
         eprintln!("no {}: run twin/library first, or set BOARD_LIBRARY", archive.display());
         std::process::exit(1);
     }
-    println!("cargo::rerun-if-changed={}", archive.display());
-    println!("cargo::rustc-link-search=native={}", library.display());
-    println!("cargo::rustc-link-lib=static=board_c");
+    println!("cargo:rerun-if-changed={}", archive.display());
+    println!("cargo:rustc-link-search=native={}", library.display());
+    println!("cargo:rustc-link-lib=static=board_c");
     let out = PathBuf::from(env::var("OUT_DIR").expect("cargo names the folder"));
     write_faults(&here, &out);
 }
@@ -71,8 +71,8 @@ fn part(source: &Path, file: &str, fault: &Fault) -> String {
 
 /// Writes OUT_DIR/faults.rs: a module for every fault and the list of them.
 fn write_faults(here: &Path, out: &Path) {
-    println!("cargo::rerun-if-changed=faults");
-    println!("cargo::rerun-if-changed=../src");
+    println!("cargo:rerun-if-changed=faults");
+    println!("cargo:rerun-if-changed=../src");
     let mut paths = Vec::new();
     for entry in fs::read_dir(here.join("faults")).expect("faults/ is there") {
         paths.push(entry.expect("a file of faults/").path());
@@ -80,7 +80,7 @@ fn write_faults(here: &Path, out: &Path) {
     paths.sort();
     let (mut modules, mut list) = (String::new(), String::new());
     for path in paths {
-        println!("cargo::rerun-if-changed={}", path.display());
+        println!("cargo:rerun-if-changed={}", path.display());
         let fault = fault(&path);
         let folder = out.join(&fault.name);
         fs::create_dir_all(&folder).expect("OUT_DIR takes folders");

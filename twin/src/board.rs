@@ -24,8 +24,9 @@ pub fn make(form: u64, n: u64, c: u64, record: &[u64], area: &mut [u64]) -> Answ
     if form != FORM {
         return refused(9);
     }
-    let Some(at) = Layout::new(n, c) else {
-        return refused(9);
+    let at = match Layout::new(n, c) {
+        Some(at) => at,
+        None => return refused(9),
     };
     if area.len() != at.total {
         return refused(10);

@@ -43,22 +43,22 @@ impl Line<'_> {
         Err(BadLine { line: self.number, message: message.into() })
     }
 
-    /// A decimal number of at most `most`, digits only.
-    fn number(&self, field: &str, what: &str, most: u64) -> Result<u64, BadLine> {
+    /// A decimal number from `least` to `most`, digits only.
+    fn number(&self, field: &str, what: &str, least: u64, most: u64) -> Result<u64, BadLine> {
         let digits = field.bytes().all(|b| b.is_ascii_digit());
         match field.parse::<u64>() {
-            Ok(number) if digits && number <= most => Ok(number),
-            _ => self.bad(format!("{what} must be a number from 0 to {most}, not `{field}`")),
+            Ok(number) if digits && (least..=most).contains(&number) => Ok(number),
+            _ => self.bad(format!("{what} must be a number from {least} to {most}, not `{field}`")),
         }
     }
 
     fn byte(&self, field: &str, what: &str) -> Result<u8, BadLine> {
-        Ok(self.number(field, what, u64::from(u8::MAX))? as u8)
+        Ok(self.number(field, what, 0, u64::from(u8::MAX))? as u8)
     }
 
     /// All fields after the first, as words.
     fn words(&self) -> Result<Vec<u64>, BadLine> {
-        self.fields[1..].iter().map(|field| self.number(field, "a word", u64::MAX)).collect()
+        self.fields[1..].iter().map(|field| self.number(field, "a word", 0, u64::MAX)).collect()
     }
 }
 
@@ -117,10 +117,7 @@ fn header(lines: &[Line], end: &Line) -> Result<Script, BadLine> {
         if line.fields.len() != 2 || line.fields[0] != name {
             return line.bad(format!("expected `{name}` and a number from 1 to {most}"));
         }
-        sizes[i] = line.number(line.fields[1], name, most)?;
-        if sizes[i] == 0 {
-            return line.bad(format!("`{name}` must be at least 1"));
-        }
+        sizes[i] = line.number(line.fields[1], name, 1, most)?;
     }
     let line = lines.get(2).unwrap_or(end);
     if line.fields.first() != Some(&"start") {
@@ -161,7 +158,7 @@ fn add_move<'a>(
         ["raw", process, kind, length] => {
             let process = line.byte(process, "a process")?;
             let kind = line.byte(kind, "a kind")?;
-            let length = line.number(length, "a length", u64::from(u16::MAX))? as u16;
+            let length = line.number(length, "a length", 0, u64::from(u16::MAX))? as u16;
             let of_writer = kind == BEGIN && u64::from(process) == n;
             if of_writer && length != 0 && script.takes(length) {
                 unfed.push((line, length, script.run.values.len()));
@@ -179,13 +176,11 @@ fn add_move<'a>(
 /// So many steps of a process; the repeat is written `x8`.
 fn add_steps(script: &mut Script, line: &Line, process: &str, repeat: &str) -> Result<(), BadLine> {
     let process = line.byte(process, "a process")?;
-    let Some(times) = repeat.strip_prefix('x') else {
-        return line.bad(format!("a repeat is written `x8`, not `{repeat}`"));
+    let times = match repeat.strip_prefix('x') {
+        Some(times) => times,
+        None => return line.bad(format!("a repeat is written `x8`, not `{repeat}`")),
     };
-    let times = line.number(times, "a repeat", MOST_MOVES)?;
-    if times == 0 {
-        return line.bad("a repeat must be at least 1");
-    }
+    let times = line.number(times, "a repeat", 1, MOST_MOVES)?;
     script.steps(process, times as usize);
     Ok(())
 }

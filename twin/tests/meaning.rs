@@ -83,8 +83,9 @@ fn steps_of_write(run: &Run, lines: &[Vec<u64>], from: usize) -> Option<usize> {
 fn every_read_returns_a_record_of_its_time() {
     let mut reads = 0;
     for case in all() {
-        let Some(mut run) = parse(&case.file) else {
-            continue;
+        let mut run = match parse(&case.file) {
+            Some(run) => run,
+            None => continue,
         };
         // Let the writer end what the file leaves unended.
         let step = Move { process: run.n as u8, kind: STEP, length: 0 };

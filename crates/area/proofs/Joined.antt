@@ -21,6 +21,9 @@ three a b c = joined-all a (b ∷ c ∷ [])
 pub four : (a b c d : Bool) → a && b && c && d ≡ all (a ∷ b ∷ c ∷ d ∷ [])
 four a b c d = joined-all a (b ∷ c ∷ d ∷ [])
 
+pub five : (a b c d e : Bool) → a && b && c && d && e ≡ all (a ∷ b ∷ c ∷ d ∷ e ∷ [])
+five a b c d e = joined-all a (b ∷ c ∷ d ∷ e ∷ [])
+
 pub six : (a b c d e f : Bool) → a && b && c && d && e && f ≡ all (a ∷ b ∷ c ∷ d ∷ e ∷ f ∷ [])
 six a b c d e f = joined-all a (b ∷ c ∷ d ∷ e ∷ f ∷ [])
 

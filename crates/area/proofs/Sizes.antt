@@ -57,7 +57,7 @@ module _ {p : Layout} (l : Laid p) where
       let start = ap (λ q. q .desks) (l .exact) in
       record { is = omega arith; within = omega (arith, row-within (6 + p .c) (p .n) r f k h); small = laid-small }
 
-  pub own-stands : (f : ℕ) → f < 7 + p .c → Stands p 3 (p .writer) 0 f
-  own-stands f k =
+  pub writer-stands : (f : ℕ) → f < 7 + p .c → Stands p 3 (p .writer) 0 f
+  writer-stands f k =
       let start = ap (λ q. q .writer) (l .exact) in
       record { is = omega arith; within = omega arith; small = laid-small }

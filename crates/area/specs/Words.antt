@@ -19,8 +19,8 @@ slot-word n c s f = word-at (form1 n c) 1 s f
 abbrev pub desk-word : ℕ → ℕ → ℕ → ℕ → ℕ
 desk-word n c r f = word-at (form1 n c) 2 r f
 
-abbrev pub own-word : ℕ → ℕ → ℕ → ℕ
-own-word n c f = word-at (form1 n c) 3 0 f
+abbrev pub writer-word : ℕ → ℕ → ℕ → ℕ
+writer-word n c f = word-at (form1 n c) 3 0 f
 
 -- the layout for n readers and records of at most c words
 abbrev pub layout-of : ℕ → ℕ → Layout

@@ -30,7 +30,7 @@ pub fn slot_field(area: &[u64], p: Layout, s: usize, f: usize) -> u64
     requires { ⌜ Sized p (now area) × (s < p .n + 2) × (f < 4) ⌝ }
     ensures { λ r. ⌜ r ≡ memory-of p (now (area .entry)) (slot-field f s) ⌝ }
 {
-    let at = p.slot(s, f);
+    let at = p.slot_word(s, f);
     area[at]
 }
 
@@ -39,7 +39,7 @@ pub fn desk_field(area: &[u64], p: Layout, r: usize, f: usize) -> u64
     requires { ⌜ Sized p (now area) × (r < p .n) × (f < 6) ⌝ }
     ensures { λ w. ⌜ w ≡ memory-of p (now (area .entry)) (desk-field f r) ⌝ }
 {
-    let at = p.desk(r, f);
+    let at = p.desk_word(r, f);
     area[at]
 }
 
@@ -48,6 +48,6 @@ pub fn writer_field(area: &[u64], p: Layout, f: usize) -> u64
     requires { ⌜ Sized p (now area) × (f < 7) ⌝ }
     ensures { λ r. ⌜ r ≡ memory-of p (now (area .entry)) (writer-field f) ⌝ }
 {
-    let at = p.own(f);
+    let at = p.writer_word(f);
     area[at]
 }

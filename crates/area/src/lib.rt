@@ -1,15 +1,13 @@
-// The area of document 01: where each word stands, worked out in one place, and the test of an area.
+// The area of document 01: where each word stands, worked out in one place, and the reads and stores of one word.
 ghost use mathlib.Core.Path.{_≡_};
 ghost use Prim.Native.Nat.{_+_, _≤_, _<_};
 ghost use Rattle.register.specs.Table.{total};
 ghost use Rattle.register.specs.Area.{form1};
-ghost use Rattle.area.specs.Words.{layout-of, Laid, slot-word, desk-word, own-word};
-ghost use Rattle.area.specs.Test.{test-number};
+ghost use Rattle.area.specs.Words.{layout-of, Laid, slot-word, desk-word, writer-word};
 
 pub mod fields;
 pub mod header;
 pub mod records;
-mod sound;
 pub mod stores;
 
 // Where the parts of an area for n readers and records of at most c words begin, and how many words it has.
@@ -103,7 +101,7 @@ impl Layout {
     }
 
     // Where word f of slot s stands.
-    pub fn slot(self, s: usize, f: usize) -> usize
+    pub fn slot_word(self, s: usize, f: usize) -> usize
         requires { ⌜ Laid self × (s < self .n + 2) × (f < 4 + self .c) ⌝ }
         ensures { λ i. ⌜ (i ≡ slot-word (self .n) (self .c) s f) × (i < total (form1 (self .n) (self .c))) ⌝ }
     {
@@ -111,32 +109,18 @@ impl Layout {
     }
 
     // Where word f of the desk of reader r stands.
-    pub fn desk(self, r: usize, f: usize) -> usize
+    pub fn desk_word(self, r: usize, f: usize) -> usize
         requires { ⌜ Laid self × (r < self .n) × (f < 6 + self .c) ⌝ }
         ensures { λ i. ⌜ (i ≡ desk-word (self .n) (self .c) r f) × (i < total (form1 (self .n) (self .c))) ⌝ }
     {
         self.desks + (r * (Layout::DESK + self.c) + f)
     }
 
-    // Where word f of the writer's own desk stands.
-    pub fn own(self, f: usize) -> usize
+    // Where word f of the writer's desk stands.
+    pub fn writer_word(self, f: usize) -> usize
         requires { ⌜ Laid self × (f < 7 + self .c) ⌝ }
-        ensures { λ i. ⌜ (i ≡ own-word (self .n) (self .c) f) × (i < total (form1 (self .n) (self .c))) ⌝ }
+        ensures { λ i. ⌜ (i ≡ writer-word (self .n) (self .c) f) × (i < total (form1 (self .n) (self .c))) ⌝ }
     {
         self.writer + f
     }
-}
-
-// The test of an area, which every call makes first: 1 not an area, 2 damaged, 0 neither.
-pub fn tested(area: &[u64]) -> u64
-    ensures { λ r. ⌜ r ≡ test-number (now (area .entry)) ⌝ }
-{
-    if !header::is_area(area) {
-        return 1;
-    }
-    let p = header::layout(area);
-    if !sound::undamaged(area, p) {
-        return 2;
-    }
-    0
 }

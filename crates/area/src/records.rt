@@ -19,7 +19,7 @@ pub fn contents_word(area: &[u64], p: Layout, s: usize, j: usize) -> u64
     requires { ⌜ Sized p (now area) × (s < p .n + 2) × (j < p .c) ⌝ }
     ensures { λ w. ⌜ w ≡ view (form1 (p .n) (p .c)) (now (area .entry)) (contents s j) ⌝ }
 {
-    let i = p.slot(s, Layout::SLOT + j);
+    let i = p.slot_word(s, Layout::SLOT + j);
     area[i]
 }
 
@@ -28,6 +28,6 @@ pub fn write_record_word(area: &[u64], p: Layout, j: usize) -> u64
     requires { ⌜ Sized p (now area) × (j < p .c) ⌝ }
     ensures { λ w. ⌜ w ≡ view (form1 (p .n) (p .c)) (now (area .entry)) (write-record j) ⌝ }
 {
-    let i = p.own(Layout::WRITER + j);
+    let i = p.writer_word(Layout::WRITER + j);
     area[i]
 }

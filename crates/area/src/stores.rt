@@ -21,7 +21,7 @@ pub fn set_slot_field(area: &mut [u64], p: Layout, s: usize, f: usize, v: u64)
     requires { ⌜ Sized p (now area) × (s < p .n + 2) × (f < 4) ⌝ }
     ensures { λ _. ⌜ now (area .exit) ≡ words-after p (now (area .entry)) (slot-field f s ≔ v ∷ []) ⌝ }
 {
-    let i = p.slot(s, f);
+    let i = p.slot_word(s, f);
     area[i] = v;
 }
 
@@ -30,7 +30,7 @@ pub fn set_contents(area: &mut [u64], p: Layout, s: usize, j: usize, v: u64)
     requires { ⌜ Sized p (now area) × (s < p .n + 2) × (j < p .c) ⌝ }
     ensures { λ _. ⌜ now (area .exit) ≡ words-after p (now (area .entry)) (contents s j ≔ v ∷ []) ⌝ }
 {
-    let i = p.slot(s, Layout::SLOT + j);
+    let i = p.slot_word(s, Layout::SLOT + j);
     area[i] = v;
 }
 
@@ -39,7 +39,7 @@ pub fn set_desk_field(area: &mut [u64], p: Layout, r: usize, f: usize, v: u64)
     requires { ⌜ Sized p (now area) × (r < p .n) × (f < 6) ⌝ }
     ensures { λ _. ⌜ now (area .exit) ≡ words-after p (now (area .entry)) (desk-field f r ≔ v ∷ []) ⌝ }
 {
-    let i = p.desk(r, f);
+    let i = p.desk_word(r, f);
     area[i] = v;
 }
 
@@ -48,7 +48,7 @@ pub fn set_read_record(area: &mut [u64], p: Layout, r: usize, j: usize, v: u64)
     requires { ⌜ Sized p (now area) × (r < p .n) × (j < p .c) ⌝ }
     ensures { λ _. ⌜ now (area .exit) ≡ words-after p (now (area .entry)) (read-record r j ≔ v ∷ []) ⌝ }
 {
-    let i = p.desk(r, Layout::DESK + j);
+    let i = p.desk_word(r, Layout::DESK + j);
     area[i] = v;
 }
 
@@ -57,7 +57,7 @@ pub fn set_writer_field(area: &mut [u64], p: Layout, f: usize, v: u64)
     requires { ⌜ Sized p (now area) × (f < 7) ⌝ }
     ensures { λ _. ⌜ now (area .exit) ≡ words-after p (now (area .entry)) (writer-field f ≔ v ∷ []) ⌝ }
 {
-    let i = p.own(f);
+    let i = p.writer_word(f);
     area[i] = v;
 }
 
@@ -66,6 +66,6 @@ pub fn set_write_record(area: &mut [u64], p: Layout, j: usize, v: u64)
     requires { ⌜ Sized p (now area) × (j < p .c) ⌝ }
     ensures { λ _. ⌜ now (area .exit) ≡ words-after p (now (area .entry)) (write-record j ≔ v ∷ []) ⌝ }
 {
-    let i = p.own(Layout::WRITER + j);
+    let i = p.writer_word(Layout::WRITER + j);
     area[i] = v;
 }

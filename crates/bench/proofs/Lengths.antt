@@ -9,7 +9,7 @@ use lib.Dec.{ltb}
 use lib.ListN.{length, take, length-append}
 use Rattle.register.specs.Area.{current, memory}
 use Rattle.register.specs.Calls.{Answer, shown}
-use Rattle.register.specs.History.{got}
+use Rattle.atomic.specs.History.{got}
 use Rattle.register.proofs.Tests.{if-true, if-less}
 use Rattle.runfile.specs.RunFile.{readers, capacity, moves, is-run-file, Written, written}
 use Rattle.runfile.proofs.Files.{file-facts}

@@ -11,12 +11,12 @@ use borrow.Author.Tests.{lt-ltb, le-ltb, eq-eqb, ne-eqb}
 use Rattle.register.specs.Area.{readers, capacity, is-area, memory, undamaged}
 use Rattle.register.specs.Steps.{Plan, refuse, accept, reader-step, writer-step, Move, step, mover, plan}
 use Rattle.register.specs.Calls.{refused, carried-out, answered}
-use Rattle.register.proofs.Called.{whole-area}
+use Rattle.register.proofs.Facts.{whole-area}
 use Rattle.area.specs.declared.Layout.{Layout}
 use Rattle.area.specs.Words.{layout-of, memory-of}
-use Rattle.area.specs.Test.{test-number}
-use Rattle.area.proofs.AreaTest.{sized}
-use Rattle.area.proofs.TestNumber.{both-pass, refuses}
+use Rattle.testing.specs.Test.{test-number}
+use Rattle.testing.proofs.AreaTest.{sized}
+use Rattle.testing.proofs.TestNumber.{both-pass, refuses}
 use Rattle.answer.specs.declared.Answer.{Answer as Returned}
 use Rattle.answer.specs.Carried.{whole, Ready, carried}
 use Rattle.answer.proofs.Stored.{returned}

@@ -1,6 +1,5 @@
 -- Laws of the calls that their proofs cite. Assumes nothing.
-pub mod Clearing
-pub mod Fresh
-pub mod Shown
-pub mod Answering
+mod Made
+mod Answering
+mod Shown
 pub mod Unique

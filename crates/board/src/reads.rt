@@ -9,7 +9,7 @@ ghost use Rattle.answer.specs.Carried.{whole};
 pub fn begin_read(area: &mut [u64], reader: u64) -> Answer
     ensures { λ x. ⌜ whole x (now (area .exit)) ≡ read-begun (now (area .entry)) reader ⌝ }
 {
-    let number = area::tested(area);
+    let number = testing::tested(area);
     if number != 0 {
         return answer::refusal(number);
     }

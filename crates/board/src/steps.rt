@@ -9,7 +9,7 @@ ghost use Rattle.answer.specs.Carried.{whole};
 pub fn step(area: &mut [u64], process: u64) -> Answer
     ensures { λ x. ⌜ whole x (now (area .exit)) ≡ stepped (now (area .entry)) process ⌝ }
 {
-    let number = area::tested(area);
+    let number = testing::tested(area);
     if number != 0 {
         return answer::refusal(number);
     }

@@ -9,7 +9,7 @@ ghost use Rattle.answer.specs.Carried.{whole};
 pub fn begin_write(area: &mut [u64], words: &[u64]) -> Answer
     ensures { λ x. ⌜ whole x (now (area .exit)) ≡ write-begun (now (area .entry)) (now (words .entry)) ⌝ }
 {
-    let number = area::tested(area);
+    let number = testing::tested(area);
     if number != 0 {
         return answer::refusal(number);
     }

@@ -14,16 +14,15 @@ use Rattle.register.specs.Area.{form1, known-form, in-range}
 use Rattle.register.specs.Calls.{Answer, made}
 use Rattle.area.specs.declared.Layout.{Layout}
 use Rattle.area.specs.Words.{layout-of}
-use Rattle.area.proofs.Asked.{was-no}
-use Rattle.board.proofs.Fresh.{Taken}
-use Rattle.board_c.specs.Places.{words-of}
+use Rattle.area.proofs.Taken.{Taken, not-taken}
+use Rattle.board_c.specs.Sizes.{words-of}
 use Rattle.board_c.specs.Promises.{WordsAreMade}
 
 -- the form is not known, or N or C is out of range
-pub words-none : (form n c : ℕ) {r : Bool} → r ≡ in-range n c → not (known-form form && r) ≡ true
+pub words-none : (form n c : ℕ) {k r : Bool} → k ≡ known-form form → r ≡ in-range n c → not (k && r) ≡ true
     → 0 ≡ words-of form n c
 unfolding words-of
-words-none form n c e h = rw (was-no (ap (λ b. known-form form && b) e) h)
+words-none form n c f g h = rw (not-taken form n c f g h)
 
 -- they are, and the total is the layout's
 pub words-total : {form n c : ℕ} {p : Layout} → Taken form n c → p ≡ layout-of n c

@@ -2,17 +2,17 @@
 // caller but memory that is its own; each is equal to a definition of `register`, as the calls of `board` are.
 use answer::Answer;
 use area::Layout;
-use area::fields;
 use area::header;
 use board::making;
 use board::reads;
-use board::showing;
 use board::steps;
 use board::writes;
+use place::Place;
 ghost use mathlib.Core.Path.{_≡_};
 ghost use Rattle.register.specs.Calls.{made, read-begun, write-begun, stepped};
+ghost use Rattle.place.specs.Places.{place-of};
 ghost use Rattle.board_c.specs.Answers.{as-answer, in-c};
-ghost use Rattle.board_c.specs.Places.{place-of, words-of};
+ghost use Rattle.board_c.specs.Sizes.{words-of};
 
 // What a call returns: its number, 1 if an operation ended or else 0, and the age.
 #[repr(C)]
@@ -20,14 +20,6 @@ pub struct BoardAnswer {
     pub number: u64,
     pub ended: u64,
     pub age: u64,
-}
-
-// Where a reader's record stands: yes is 1, and it is the len words of the area from at on; or all three are 0.
-#[repr(C)]
-pub struct BoardPlace {
-    pub yes: u64,
-    pub at: u64,
-    pub len: u64,
 }
 
 // An answer of the board as C has it.
@@ -84,25 +76,10 @@ pub extern "C" fn board_step(area: &mut [u64], process: u64) -> BoardAnswer
 
 // Where the reader's record stands in the area, if there is one to show.
 #[no_mangle]
-pub extern "C" fn board_show(area: &[u64], reader: u64) -> BoardPlace
+pub extern "C" fn board_show(area: &[u64], reader: u64) -> Place
     ensures { λ x. ⌜ x ≡ place-of (now (area .entry)) reader ⌝ }
 {
-    if !showing::is_own(area, reader) {
-        return BoardPlace {
-            yes: 0,
-            at: 0,
-            len: 0,
-        };
-    }
-    let p = header::layout(area);
-    let r = reader as usize;
-    let at = p.desk(r, Layout::DESK);
-    let len = fields::desk_field(area, p, r, Layout::LEN);
-    BoardPlace {
-        yes: 1,
-        at: at as u64,
-        len,
-    }
+    place::place_of(area, reader)
 }
 
 // The words of an area for n readers and records of at most c words, and 0 where making answers 9.
@@ -110,7 +87,7 @@ pub extern "C" fn board_show(area: &[u64], reader: u64) -> BoardPlace
 pub extern "C" fn board_words(form: u64, n: u64, c: u64) -> u64
     ensures { λ t. ⌜ t ≡ words-of form n c ⌝ }
 {
-    let known = (form == 1) & header::in_range(n, c);
+    let known = header::known_form(form) & header::in_range(n, c);
     if !known {
         return 0;
     }

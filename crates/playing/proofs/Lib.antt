@@ -2,3 +2,4 @@
 mod Values
 pub mod Starting
 mod OneMove
+pub mod Numbers

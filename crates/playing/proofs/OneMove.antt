@@ -12,7 +12,7 @@ use Rattle.register.specs.Place.{Record}
 use Rattle.register.specs.Area.{is-area, capacity}
 use Rattle.register.specs.Steps.{Move, write}
 use Rattle.register.specs.Calls.{Answer, answered}
-use Rattle.register.proofs.Called.{area-facts}
+use Rattle.register.proofs.Facts.{area-facts}
 use Rattle.answer.specs.Carried.{whole}
 use Rattle.answer.specs.declared.Answer.{Answer as Returned}
 use Rattle.runfile.specs.Bytes.{words-at}

@@ -8,15 +8,16 @@ use lib.ListN.{length, take, replicate}
 use Rattle.register.specs.Table.{total}
 use Rattle.register.specs.Area.{form1}
 use Rattle.register.specs.Calls.{Answer, refused, made}
-use Rattle.register.proofs.Called.{InRange}
-use Rattle.register.proofs.Made.{made-well, makes}
+use Rattle.register.specs.Conditions.{InRange}
+use Rattle.atomic.proofs.Made.{made-well, accepted-when}
 use Rattle.answer.specs.Carried.{whole}
 use Rattle.answer.specs.declared.Answer.{Answer as Returned}
 use Rattle.runfile.specs.Bytes.{words-at}
 use Rattle.runfile.specs.RunFile.{readers, capacity, values-at, starting-length, starting-record, is-run-file}
 use Rattle.runfile.specs.Code.{header-of}
 use Rattle.runfile.specs.declared.types.Header.{Header}
-use Rattle.runfile.proofs.Files.{FileFacts, file-facts}
+use Rattle.runfile.specs.Conditions.{FileFacts}
+use Rattle.runfile.proofs.Files.{file-facts}
 use Rattle.text.specs.Sheet.{pasted}
 use Rattle.playing.specs.Play.{begun, first-state}
 use Rattle.playing.proofs.Values.{place, words-length, front-words}
@@ -43,9 +44,7 @@ module _ (b : List ℕ) (e : is-run-file b ≡ true) where
   pub well : (a : List ℕ) → length a ≡ total (form1 (readers b) (capacity b))
       → made 1 (readers b) (capacity b) (starting-record b) a .number ≡ 0
   well a exact =
-      makes .accepted (readers b) (capacity b) (starting-record b) a (facts .some-readers)
-      (omega (arith, facts .few-readers)) (facts .some-words) (omega (arith, facts .few-words))
-      (exact ∙ omega arith) short
+      accepted-when (readers b) (capacity b) (starting-record b) a in-range (exact ∙ omega arith) short
 
   pub started : (a : List ℕ) → length a ≡ total (form1 (readers b) (capacity b))
       → made 1 (readers b) (capacity b) (starting-record b) a .area ≡ first-state b .area

@@ -1,3 +1,2 @@
--- Laws of a reader's moves that their proofs cite. Assumes nothing.
-pub mod Storing
-pub mod Reading
+-- Laws of a begin of a read and of a reader's phases that their proofs cite. Assumes nothing.
+mod Reading

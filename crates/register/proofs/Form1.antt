@@ -9,28 +9,29 @@ use Rattle.register.specs.Place.{Record, Place, Store, copied}
 use Rattle.register.specs.Table.{address}
 use Rattle.register.specs.Area.{form1, header, current, slot-field, contents, desk-field, read-record}
 use Rattle.register.specs.Area.{writer-field, write-record}
-use Rattle.register.specs.Demands.{Each, none, also, Untouched}
+use Rattle.register.specs.Lists.{Each, none, also}
+use Rattle.register.specs.Table.{Untouched}
 use Rattle.register.proofs.Tests.{each-follows}
 use Rattle.register.proofs.Tables.{Has, AllHas}
 
 module _ (n c : ℕ) where
-  -- a place of the area behind the first seven words
-  pub record Own (p : Place) : Type 0 where
+  -- a place of the area behind its head, which is words 0 to 6
+  pub record InBody (p : Place) : Type 0 where
     pub has : Has (form1 n c) p
     pub behind : 7 ≤ address (form1 n c) p
 
-  abbrev pub AllOwn : List Store → Type 0
-  AllOwn = Each (λ s. Own (s .place))
+  abbrev pub AllInBody : List Store → Type 0
+  AllInBody = Each (λ s. InBody (s .place))
 
-  pub all-has : {l : List Store} → AllOwn l → AllHas (form1 n c) l
+  pub all-has : {l : List Store} → AllInBody l → AllHas (form1 n c) l
   all-has = each-follows (λ s o. o .has)
 
-  pub head-untouched : {l : List Store} (i : ℕ) → i < 7 → AllOwn l → Untouched (form1 n c) i l
+  pub head-untouched : {l : List Store} (i : ℕ) → i < 7 → AllInBody l → Untouched (form1 n c) i l
   head-untouched i h = each-follows (λ s o e. omega (arith, o .behind))
 
-  pub own-append : (k l : List Store) → AllOwn k → AllOwn l → AllOwn (k ++ l)
-  own-append [] l none w = w
-  own-append (s ∷ k) l (also h v) w = also h (own-append k l v w)
+  pub body-append : (k l : List Store) → AllInBody k → AllInBody l → AllInBody (k ++ l)
+  body-append [] l none w = w
+  body-append (s ∷ k) l (also h v) w = also h (body-append k l v w)
 
   pub has-header : (i : ℕ) → i < 8 → Has (form1 n c) (header i)
   has-header i l =
@@ -42,11 +43,11 @@ module _ (n c : ℕ) where
         single = λ d. refl;
       }
 
-  pub own-current : Own current
-  own-current = record { has = has-header 7 (omega arith); behind = omega arith }
+  pub body-current : InBody current
+  body-current = record { has = has-header 7 (omega arith); behind = omega arith }
 
-  pub own-slot : (f s : ℕ) → f < 4 → s < n + 2 → Own (slot-field f s)
-  own-slot f s l k =
+  pub body-slot : (f s : ℕ) → f < 4 → s < n + 2 → InBody (slot-field f s)
+  body-slot f s l k =
       record {
         has = record {
           part = omega arith;
@@ -58,8 +59,8 @@ module _ (n c : ℕ) where
         behind = omega arith;
       }
 
-  pub own-contents : (s i : ℕ) → s < n + 2 → i < c → Own (contents s i)
-  own-contents s i k l =
+  pub body-contents : (s i : ℕ) → s < n + 2 → i < c → InBody (contents s i)
+  body-contents s i k l =
       record {
         has = record {
           part = omega arith;
@@ -71,8 +72,8 @@ module _ (n c : ℕ) where
         behind = omega arith;
       }
 
-  pub own-desk : (f r : ℕ) → f < 6 → r < n → Own (desk-field f r)
-  own-desk f r l k =
+  pub body-desk : (f r : ℕ) → f < 6 → r < n → InBody (desk-field f r)
+  body-desk f r l k =
       record {
         has = record {
           part = omega arith;
@@ -84,8 +85,8 @@ module _ (n c : ℕ) where
         behind = omega arith;
       }
 
-  pub own-read-record : (r i : ℕ) → r < n → i < c → Own (read-record r i)
-  own-read-record r i k l =
+  pub body-read-record : (r i : ℕ) → r < n → i < c → InBody (read-record r i)
+  body-read-record r i k l =
       record {
         has = record {
           part = omega arith;
@@ -97,8 +98,8 @@ module _ (n c : ℕ) where
         behind = omega arith;
       }
 
-  pub own-writer : (f : ℕ) → f < 7 → Own (writer-field f)
-  own-writer f l =
+  pub body-writer : (f : ℕ) → f < 7 → InBody (writer-field f)
+  body-writer f l =
       record {
         has = record {
           part = omega arith;
@@ -110,8 +111,8 @@ module _ (n c : ℕ) where
         behind = omega arith;
       }
 
-  pub own-write-record : (i : ℕ) → i < c → Own (write-record i)
-  own-write-record i l =
+  pub body-write-record : (i : ℕ) → i < c → InBody (write-record i)
+  body-write-record i l =
       record {
         has = record {
           part = omega arith;
@@ -124,7 +125,7 @@ module _ (n c : ℕ) where
       }
 
   -- a record that is copied into a row
-  pub own-copied : (at : ℕ → Place) → ((i : ℕ) → i < c → Own (at i)) → (v : Record) (i : ℕ)
-      → i + length v ≤ c → AllOwn (copied at i v)
-  own-copied at h [] i l = none
-  own-copied at h (x ∷ v) i l = also (h i (omega arith)) (own-copied at h v (suc i) (omega arith))
+  pub body-copied : (at : ℕ → Place) → ((i : ℕ) → i < c → InBody (at i)) → (v : Record) (i : ℕ)
+      → i + length v ≤ c → AllInBody (copied at i v)
+  body-copied at h [] i l = none
+  body-copied at h (x ∷ v) i l = also (h i (omega arith)) (body-copied at h v (suc i) (omega arith))

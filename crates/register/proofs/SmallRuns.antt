@@ -6,12 +6,12 @@ use Prim.Native.Nat.{ℕ}
 use lib.ListN.{getD, take, replicate}
 use Rattle.register.specs.Place.{Record}
 use Rattle.register.specs.Table.{total}
-use Rattle.register.specs.Area.{form1, current, in-hand, is-area, slot-sound, desk-sound, writer-sound}
+use Rattle.register.specs.Area.{form1, current, writer-phase, in-hand, is-area, slot-sound, desk-sound, writer-sound}
 use Rattle.register.specs.Area.{undamaged, memory}
 use Rattle.register.specs.Steps.{reader-step, writer-step, Move, read, write, step}
 use Rattle.register.specs.Calls.{Answer, fresh, carried-out, answered, is-own, shown}
-use Rattle.register.specs.Demands.{Each, none, also}
-use Rattle.register.specs.History.{after, history}
+use Rattle.register.specs.Lists.{Each, none, also}
+use Rattle.register.specs.Calls.{after}
 
 -- the answer to a move after some others
 abbrev pub answer-to : List ℕ → List Move → Move → Answer
@@ -53,6 +53,10 @@ row-of x y = record { given = x; wanted = y }
 abbrev two-writes : List Move
 two-writes = written (8 ∷ []) 8 ++ written (9 ∷ []) 9
 
+-- the writer's phase on P1's area after some moves and so many steps of one more write
+abbrev writer-phase-after : List Move → ℕ → ℕ
+writer-phase-after l k = memory (after areaP1 (l ++ written (9 ∷ []) k)) writer-phase
+
 abbrev paused : List Move
 paused = (read 0 ∷ replicate 3 (step 0)) ++ written (3 ∷ 4 ∷ []) 9 ++ written (5 ∷ 6 ∷ []) 10
 
@@ -69,8 +73,9 @@ small-runs =
     -- P6
     ∷ row-of (said (answer-to areaP1 (read 0 ∷ step 0 ∷ step 0 ∷ []) (step 0))) (0 ∷ 1 ∷ 0 ∷ 7 ∷ [])
     ∷ row-of (current-word (after areaP1 (read 0 ∷ step 0 ∷ step 0 ∷ step 0 ∷ [])) ∷ []) (1 ∷ [])
-    -- P7: the looks, newest first; the slot of each write
-    ∷ row-of (map (λ w. w .looks) (history areaP1 two-writes .writes)) (3 ∷ 2 ∷ [])
+    -- P7: the writer's phase after its begin and so many steps: it looks in phase 1; then the slot of each write
+    ∷ row-of (map (writer-phase-after []) (0 ∷ 1 ∷ 2 ∷ [])) (1 ∷ 1 ∷ 2 ∷ [])
+    ∷ row-of (map (writer-phase-after (written (8 ∷ []) 8)) (0 ∷ 1 ∷ 2 ∷ 3 ∷ [])) (1 ∷ 1 ∷ 1 ∷ 2 ∷ [])
     ∷ row-of (memory (after areaP1 (written (8 ∷ []) 8)) in-hand
     ∷ memory (after areaP1 two-writes) in-hand ∷ [])
     (1 ∷ 2 ∷ [])
@@ -92,4 +97,5 @@ pub small-runs-hold : Each (λ x. x .given ≡ x .wanted) small-runs
 unfolding is-area slot-sound desk-sound writer-sound undamaged reader-step writer-step carried-out answered is-own shown
 small-runs-hold =
     also refl
-    (also refl (also refl (also refl (also refl (also refl (also refl (also refl (also refl (also refl none)))))))))
+    (also refl (also refl (also refl (also refl (also refl
+    (also refl (also refl (also refl (also refl (also refl none))))))))))

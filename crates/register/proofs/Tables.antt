@@ -1,5 +1,14 @@
 -- One theory of layouts for any table of parts: addresses of different places differ, and stores to a list of words
--- are stores to its memory. Assumes nothing.
+-- are stores to its memory.
+--     rows-apart, row-within              rows of one width
+--     Has, has-it, AllHas                 a place that the area has; stores to such places alone
+--     base-grows, address-within          parts follow one another, and a place that the area has stands inside it
+--     addresses-apart                     two places at one address are one
+--     view-here                           what the memory holds is the word at the address
+--     view-store                          stores to the words are stores to the memory
+--     length-store, store-untouched       stores keep the length, and a word that none is to
+--     words-row                           a part of a list of words, word by word
+-- Assumes nothing.
 use mathlib.Core.Path.{_≡_, refl, sym, ap, ap₂, subst, _∙_, fun-ext}
 use mathlib.Core.Logic.{_≢_}
 use mathlib.Core.Bool.{Bool, true, false, cond, _&&_}
@@ -15,7 +24,8 @@ use borrow.Author.Tests.{eq-eqb, ne-eqb, lt-ltb}
 use Rattle.register.specs.Place.{Place, changed, Store, apply}
 use Rattle.register.specs.Table.{Table, width, base, total, address, has, view, store}
 use Rattle.register.specs.Calls.{words-from}
-use Rattle.register.specs.Demands.{Each, also, Untouched}
+use Rattle.register.specs.Lists.{Each, also}
+use Rattle.register.specs.Table.{Untouched}
 use Rattle.register.proofs.Tests.{both, true-passes}
 use Rattle.register.proofs.Places.{place-equal, place-discrete, changed-here, changed-elsewhere, row, row-same}
 

@@ -1,4 +1,17 @@
--- Tests on numbers: what a test that passes or fails says, and what holds of either branch. Assumes nothing.
+-- Tests on numbers: what a test that passes or fails says, and what holds of either branch.
+--     passed, true-passes                 a test that passes is true, and the other way
+--     both, joined                        two tests that pass
+--     each-passes, all-pass               a list of tests that pass
+--     where-passed, unless-passed         a test that is asked where another one passes
+--     where-failed, unless-failed         a test that is asked where another one fails
+--     differ-and-same, not-differ-and-same   two numbers that differ and two that do not
+--     each-of, of-each                    a test that each number of a range passes
+--     each-follows                        what holds of each of a list, from something else that does
+--     eqb-same, hit, miss, same-either    a branch whose test is known, or whose sides are the same
+--     if-true, if-equal, if-less, if-at-most   what holds of both sides holds of the branch
+--     Numbered, at-number                 what holds of every plan of a list holds of the one that is picked
+--     at-each                             what holds of one number and of every other
+-- Assumes nothing.
 use mathlib.Core.Path.{_≡_, refl, sym, subst, _∙_}
 use mathlib.Core.Logic.{_≢_}
 use mathlib.Core.Bool.{Bool, true, false, cond, _&&_, _||_, not}
@@ -6,11 +19,11 @@ use mathlib.Core.List.{List, [], _∷_}
 use Prim.Native.Nat.{ℕ, zero, suc, _+_, _≤_, _<_}
 use native.Mathlib.Decide.{ℕ-discrete}
 use native.Mathlib.Omega.{arith}
-use lib.Dec.{T, T-not, eqb, leb, ltb, eqb→eq, eqb-refl, leb→le, le→leb, ltb→lt, lt→ltb, nltb→le}
+use lib.Dec.{T, T-not, eqb, leb, ltb, eqb→eq, eqb-refl, leb→le, le→leb, ltb→lt, nltb→le}
 use lib.ListN.{length, getD}
 use borrow.Author.Tests.{eq-eqb, ne-eqb}
 use Rattle.register.specs.Area.{all, every}
-use Rattle.register.specs.Demands.{Each, none, also}
+use Rattle.register.specs.Lists.{Each, none, also}
 
 -- ---- a test as a fact
 
@@ -110,12 +123,12 @@ same-either false x = refl
 
 -- ---- what holds of either branch holds of the test
 
-pub if-true : {A : Type 0} (P : A → Type 0) (b : Bool) (x y : A) → (b ≡ true → P x) → (b ≡ false → P y)
+pub if-true {ℓ} : {A : Type 0} (P : A → Type ℓ) (b : Bool) (x y : A) → (b ≡ true → P x) → (b ≡ false → P y)
     → P (cond b x y)
 if-true P true x y f g = f refl
 if-true P false x y f g = g refl
 
-pub if-equal : {A : Type 0} (P : A → Type 0) (m n : ℕ) (x y : A) → (m ≡ n → P x) → (m ≢ n → P y)
+pub if-equal {ℓ} : {A : Type 0} (P : A → Type ℓ) (m n : ℕ) (x y : A) → (m ≡ n → P x) → (m ≢ n → P y)
     → P (cond (eqb m n) x y)
 if-equal P m n x y f g = go (ℕ-discrete m n)
   where
@@ -123,7 +136,7 @@ if-equal P m n x y f g = go (ℕ-discrete m n)
     go (yes e) = subst P (sym (rw (eq-eqb m n e))) (f e)
     go (no d) = subst P (sym (miss m n d x y)) (g d)
 
-pub if-less : {A : Type 0} (P : A → Type 0) (m n : ℕ) (x y : A) → (m < n → P x) → (n ≤ m → P y)
+pub if-less {ℓ} : {A : Type 0} (P : A → Type ℓ) (m n : ℕ) (x y : A) → (m < n → P x) → (n ≤ m → P y)
     → P (cond (ltb m n) x y)
 if-less P m n x y f g = go (ltb m n) refl
   where
@@ -146,12 +159,12 @@ if-at-most P m n x y f g = go (leb m n) refl
 -- ---- one of a list, by its number
 
 -- what is asked of each entry, numbered from i on
-pub data Numbered {A : Type 0} (P : ℕ → A → Type 0) : ℕ → List A → Type 0 where
+pub data Numbered {ℓ} {A : Type 0} (P : ℕ → A → Type ℓ) : ℕ → List A → Type ℓ where
   end : {i : ℕ} → Numbered P i []
   next : {i : ℕ} {x : A} {l : List A} → P i x → Numbered P (suc i) l → Numbered P i (x ∷ l)
 
 -- the entry with number p, counted from i
-pub at-number : {A : Type 0} (P : A → Type 0) (p i j : ℕ) (l : List A) (d : A) → p ≡ i + j
+pub at-number {ℓ} : {A : Type 0} (P : A → Type ℓ) (p i j : ℕ) (l : List A) (d : A) → p ≡ i + j
     → Numbered (λ k x. p ≡ k → P x) i l
     → (i + length l ≤ p → P d) → P (getD l j d)
 at-number P p i j [] d e end f = f (omega arith)

@@ -1,19 +1,22 @@
--- Test 2 as facts: a memory passes it exactly if each slot, desk and word is whole. Assumes nothing.
+-- Test 2 as facts: a memory passes it exactly if each slot, desk and word is whole.
+--     word-of                             a word that passes
+--     whole-of, of-whole                  a memory that passes is whole, and the other way
+-- Assumes nothing.
 use mathlib.Core.Path.{_≡_, sym, subst, _∙_}
 use mathlib.Core.Logic.{_≢_}
 use mathlib.Core.Bool.{false}
-use Prim.Native.Nat.{ℕ, _+_, _≤_, _<_}
+use Prim.Native.Nat.{ℕ, _+_}
 use native.Mathlib.Omega.{arith}
 use lib.Dec.{T, eqb, leb, ltb, eqb→eq, leb→le, le→leb, ltb→lt, lt→ltb}
 use borrow.Author.Tests.{eq-eqb, ne-eqb}
 use Rattle.register.specs.Place.{Memory}
-use Rattle.register.specs.Area.{current, index, counter, r-start, r-end, size, limit, most-writes}
-use Rattle.register.specs.Area.{phase, last, pos, len, finished}
-use Rattle.register.specs.Area.{writer-phase, last-slot, in-hand, writer-pos, writer-len, old-word}
-use Rattle.register.specs.Area.{writes-ended, all, word-sound, slot-sound, desk-sound, writer-sound}
+use Rattle.register.specs.Area.{current, index, counter, limit}
+use Rattle.register.specs.Area.{phase}
+use Rattle.register.specs.Area.{writer-phase, writer-pos, old-word}
+use Rattle.register.specs.Area.{all, word-sound, slot-sound, desk-sound, writer-sound}
 use Rattle.register.specs.Area.{slot-tests, desk-tests, writer-tests, memory-tests}
 use Rattle.register.specs.Conditions.{WordWhole, Slot, Desk, Writer, Whole}
-use Rattle.register.specs.Demands.{Each, none, also}
+use Rattle.register.specs.Lists.{Each, none, also}
 use Rattle.register.proofs.Tests.{both, joined, each-passes, all-pass}
 use Rattle.register.proofs.Tests.{where-passed, unless-passed, where-failed, unless-failed, each-of, of-each}
 use Rattle.register.proofs.Tests.{true-passes}

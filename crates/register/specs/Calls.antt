@@ -9,6 +9,7 @@ use Rattle.register.specs.Table.{total, address, view, store}
 use Rattle.register.specs.Area.{form1, slots-at, desks-at, writer-at, header, current, size, contents}
 use Rattle.register.specs.Area.{phase, len, desk-write-number, finished, read-record, writes-ended}
 use Rattle.register.specs.Area.{all, in-range, known-form, readers, capacity, table, is-area, memory, undamaged}
+use Rattle.register.specs.Steps.{_else_, unless}
 use Rattle.register.specs.Steps.{Plan, refuse, accept, Move, read, write, step, mover, plan}
 
 -- what a call returns, and the area as it leaves it
@@ -35,11 +36,12 @@ fresh n c v = store (form1 n c) (replicate (total (form1 n c)) 0) (making n c v)
 
 unfoldable pub made : ℕ → ℕ → ℕ → Record → List ℕ → Answer
 made form n c v a =
-    cond (known-form form && in-range n c)
-    (cond (eqb (length a) (total (form1 n c)))
-    (cond (leb (length v) c) (record { number = 0; ended = false; age = 0; area = fresh n c v }) (refused 4 a))
-    (refused 10 a))
-    (refused 9 a)
+    unless (λ k. refused k a)
+    ((known-form form && in-range n c) else 9
+    ∷ eqb (length a) (total (form1 n c)) else 10
+    ∷ leb (length v) c else 4
+    ∷ [])
+    (record { number = 0; ended = false; age = 0; area = fresh n c v })
 
 -- ---- calls on an existing area
 
@@ -61,10 +63,8 @@ carried-out p a (accept stores ends) =
 -- every call on an existing area tests it before anything else, and then carries out its plan
 unfoldable pub answered : List ℕ → Move → Answer
 answered a x =
-    cond (is-area a)
-    (cond (undamaged a) (carried-out (mover (readers a) x) a (plan (readers a) (capacity a) (memory a) x))
-    (refused 2 a))
-    (refused 1 a)
+    unless (λ k. refused k a) (is-area a else 1 ∷ undamaged a else 2 ∷ [])
+    (carried-out (mover (readers a) x) a (plan (readers a) (capacity a) (memory a) x))
 
 abbrev pub read-begun : List ℕ → ℕ → Answer
 read-begun a r = answered a (read r)
@@ -74,6 +74,11 @@ write-begun a v = answered a (write v)
 
 abbrev pub stepped : List ℕ → ℕ → Answer
 stepped a p = answered a (step p)
+
+-- the area after some moves
+abbrev pub after : List ℕ → List Move → List ℕ
+after a [] = a
+after a (x ∷ l) = after (answered a x .area) l
 
 -- ---- showing a record
 

@@ -1,10 +1,10 @@
 -- Document 01 as definitions, in the order in which to read them. Assumes nothing.
+pub mod Lists
 pub mod Place
 pub mod Table
 pub mod Area
 pub mod Conditions
 pub mod Steps
 pub mod Calls
-pub mod History
-pub mod Line
-pub mod Demands
+pub mod Numbers
+pub mod Stands

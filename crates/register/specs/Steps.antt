@@ -15,6 +15,20 @@ pub data Plan : Type 0 where
   refuse : ℕ → Plan
   accept : List Store → Bool → Plan
 
+-- a refusal of a call: its number, and the test that must pass for the call to go on
+pub record Refusal : Type 0 where
+  pub test : Bool
+  pub number : ℕ
+
+abbrev pub _else_ : Bool → ℕ → Refusal
+b else k = record { test = b; number = k }
+
+infix 68 _else_
+-- the first test that fails refuses by its number; where all pass it is x
+abbrev pub unless : {A : Type 0} → (ℕ → A) → List Refusal → A → A
+unless refuses [] x = x
+unless refuses (r ∷ l) x = cond (r .test) (unless refuses l x) (refuses (r .number))
+
 -- the plan for a phase, from a list of one for each; on an undamaged area no phase is past the list
 abbrev pub at-phase : ℕ → List Plan → Plan
 at-phase p plans = getD plans p (refuse 2)
@@ -109,26 +123,25 @@ freezes m =
 module _ (n : ℕ) (m : Memory) where
   -- a begin of reader r
   abbrev pub read-begins : ℕ → Plan
-  read-begins r = cond (ltb r n) (cond (eqb (m (phase r)) 0) (accept (sets-phase r 1) false) (refuse 5)) (refuse 3)
+  read-begins r = unless refuse (ltb r n else 3 ∷ eqb (m (phase r)) 0 else 5 ∷ []) (accept (sets-phase r 1) false)
 
   -- a begin of the writer with a record, where records have at most c words. A word holds no more than 2^64 − 1, so
   -- that writes ended "is" 2^64 − 1 where it is not below it
   abbrev pub write-begins : ℕ → Record → Plan
   write-begins c v =
-      cond (leb (length v) c)
-      (cond (eqb (m writer-phase) 0)
-      (cond (ltb (m writes-ended) most-writes) (accept (begins-write v) false) (refuse 7)) (refuse 5))
-      (refuse 4)
+      unless refuse
+      (leb (length v) c else 4 ∷ eqb (m writer-phase) 0 else 5 ∷ ltb (m writes-ended) most-writes else 7 ∷ [])
+      (accept (begins-write v) false)
 
   -- reader r in phase 1 to 5
   abbrev pub reader-1 : ℕ → Plan
   reader-1 r = accept (compares m r) false
 
   abbrev pub reader-2 : ℕ → Plan
-  reader-2 r = cond (ltb (m (r-end (m (last r)))) (limit n)) (accept (unbinds m r) false) (refuse 2)
+  reader-2 r = unless refuse (ltb (m (r-end (m (last r)))) (limit n) else 2 ∷ []) (accept (unbinds m r) false)
 
   abbrev pub reader-3 : ℕ → Plan
-  reader-3 r = cond (ltb (counter (m current)) (limit n)) (accept (binds m r) false) (refuse 2)
+  reader-3 r = unless refuse (ltb (counter (m current)) (limit n) else 2 ∷ []) (accept (binds m r) false)
 
   abbrev pub reader-4 : ℕ → Plan
   reader-4 r =

@@ -2,9 +2,11 @@
 -- Assumes nothing.
 use mathlib.Core.Bool.{Bool, cond, _&&_}
 use mathlib.Core.List.{List, [], _∷_}
+use mathlib.Core.Logic.{_≢_}
 use Prim.Native.Nat.{ℕ, zero, suc, _+_, _*_}
 use lib.Dec.{eqb, ltb}
 use lib.ListN.{getD, set}
+use Rattle.register.specs.Lists.{Each}
 use Rattle.register.specs.Place.{Place, Memory, Store}
 
 -- An area is made of parts, one behind another; a part of rows; a row of fields. Each field of a row is one word, but
@@ -48,3 +50,7 @@ module _ (t : Table) where
   abbrev pub store : List ℕ → List Store → List ℕ
   store a [] = a
   store a (s ∷ l) = store (set a (address (s .place)) (s .value)) l
+
+-- no store of the list is to the word at i
+abbrev pub Untouched : Table → ℕ → List Store → Type 0
+Untouched t i = Each (λ s. address t (s .place) ≢ i)

@@ -7,29 +7,16 @@ use native.Mathlib.Omega.{arith}
 use lib.Dec.{T, eqb, leb, leb→le, eqb→eq}
 use lib.ListN.{length, getD}
 use Rattle.register.specs.Area.{all}
-use Rattle.register.specs.Demands.{Each, none, also}
+use Rattle.register.specs.Lists.{Each, none, also}
 use Rattle.register.proofs.Tests.{true-passes, each-passes}
 use Rattle.runfile.specs.RunFile.{readers, capacity, starting-length, moves, moves-at, values, values-at}
 use Rattle.runfile.specs.RunFile.{header-bytes, file-tests, is-run-file, Written, written}
+use Rattle.runfile.specs.Conditions.{FileFacts}
 use Rattle.runfile.specs.Bytes.{number-at}
 use Rattle.runfile.specs.Code.{header-of, size-tests, part-tests}
 use Rattle.runfile.specs.declared.types.Header.{Header}
 
 -- ---- a file that passed
-
-pub record FileFacts (b : List ℕ) : Type 0 where
-  pub whole-header : header-bytes ≤ length b
-  pub some-readers : 1 ≤ readers b
-  pub few-readers : readers b ≤ 8
-  pub some-words : 1 ≤ capacity b
-  pub few-words : capacity b ≤ 32
-  pub short : starting-length b ≤ capacity b
-  pub few-moves : moves b ≤ 4000
-  pub moves-place : moves-at b ≡ header-bytes
-  pub few-values : values b ≤ 1000
-  pub recorded : starting-length b ≤ values b
-  pub values-place : values-at b ≡ header-bytes + 4 * moves b
-  pub exact : length b ≡ header-bytes + 4 * moves b + 8 * values b
 
 pub file-facts : (b : List ℕ) → is-run-file b ≡ true → FileFacts b
 unfolding is-run-file

@@ -13,15 +13,16 @@ use Rattle.register.specs.Place.{Memory, apply}
 use Rattle.register.specs.Area.{readers, memory, phase, pos, len, read-record}
 use Rattle.register.specs.Steps.{Move, copies}
 use Rattle.register.specs.Calls.{answered}
-use Rattle.register.specs.History.{after, Accepted, none, then, Got}
-use Rattle.register.specs.History.{Event, event, events}
+use Rattle.register.specs.Calls.{after}
+use Rattle.atomic.specs.History.{Accepted, none, then, Got}
+use Rattle.atomic.specs.History.{Event, event, events}
 use Rattle.register.proofs.Tests.{eqb-same}
 use Rattle.register.proofs.Places.{row-length}
-use Rattle.register.proofs.Sums.{sum, sum-same, sum-one}
-use Rattle.register.proofs.Moves.{Does, desk-record}
-use Rattle.register.proofs.Moves as moves
-use Rattle.register.proofs.Called.{Opened, opened, does, after-head, after-memory}
-use Rattle.register.proofs.Observed.{observed}
+use Rattle.atomic.proofs.Sums.{sum, sum-same, sum-one}
+use Rattle.atomic.proofs.Moves.{Does, desk-record}
+use Rattle.atomic.proofs.Moves as moves
+use Rattle.atomic.proofs.Called.{Opened, opened, does, after-head, after-memory}
+use Rattle.atomic.proofs.Observed.{observed}
 use Rattle.runs.proofs.ReadsGot.{got-of, gots}
 
 -- what a finished read costs

@@ -12,12 +12,13 @@ use Rattle.register.specs.Area.{readers as area-readers, capacity as area-capac
 use Rattle.register.specs.Area.{phase, writer-phase, writes-ended, most-writes}
 use Rattle.register.specs.Steps.{Move, read, write, step, refuse, accept, Plan, sets-phase, begins-write, mover, plan}
 use Rattle.register.specs.Calls.{Answer, refused, carried-out, answered}
-use Rattle.register.specs.History.{after, Accepted, none, then, Got, got, Deed, read-began, write-began, went-on}
-use Rattle.register.specs.History.{looked}
-use Rattle.register.specs.History.{published, read-ended, write-ended, Event, event, events, Read, History, noted}
-use Rattle.register.specs.History.{all-noted, writer-deed}
+use Rattle.register.specs.Calls.{after}
+use Rattle.atomic.specs.History.{Accepted, none, then, Got, got, Deed, read-began, write-began, went-on}
+use Rattle.atomic.specs.History.{looked}
+use Rattle.atomic.specs.History.{published, read-ended, write-ended, Event, event, events, Read, History, noted}
+use Rattle.atomic.specs.History.{all-noted, writer-deed}
 use Rattle.register.proofs.Tests.{if-true}
-use Rattle.register.proofs.Intact.{keeps}
+use Rattle.atomic.proofs.Intact.{keeps}
 use Rattle.runfile.specs.Bytes.{words-at}
 use Rattle.runfile.specs.RunFile.{readers, values, values-at, Written, Asked, nothing, values-for, move, asked}
 use Rattle.playing.specs.Play.{State, answer-of, call-of}

@@ -15,12 +15,13 @@ use Rattle.register.specs.Area.{form1}
 use Rattle.register.specs.Area.{readers as area-readers, memory, phase}
 use Rattle.register.specs.Steps.{Move, write}
 use Rattle.register.specs.Calls.{Answer, refused, fresh, made, answered}
-use Rattle.register.specs.History.{after, Accepted, none, then, events, nothing-yet}
+use Rattle.register.specs.Calls.{after}
+use Rattle.atomic.specs.History.{Accepted, none, then, events, nothing-yet}
 use Rattle.register.proofs.Tests.{if-true}
-use Rattle.register.proofs.Intact.{keeps}
-use Rattle.register.proofs.Making.{fresh-length, fresh-readers, at-desk}
-use Rattle.register.proofs.Made.{fresh-memory}
-use Rattle.register.proofs.Sums.{sum, sum-same, sum-zero}
+use Rattle.atomic.proofs.Intact.{keeps}
+use Rattle.atomic.proofs.Making.{fresh-length, fresh-readers, at-desk}
+use Rattle.atomic.proofs.Made.{fresh-memory}
+use Rattle.atomic.proofs.Sums.{sum, sum-same, sum-zero}
 use Rattle.runfile.specs.Bytes.{words-at}
 use Rattle.runfile.specs.RunFile.{readers, capacity, moves, values, values-at, starting-record, is-run-file}
 use Rattle.runfile.specs.RunFile.{written, Asked, nothing, values-for, move, asked}

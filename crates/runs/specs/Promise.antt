@@ -8,8 +8,8 @@ use lib.Dec.{eqb, ltb}
 use lib.ListN.{length}
 use Rattle.register.specs.Steps.{Move}
 use Rattle.register.specs.Calls.{Answer, answered}
-use Rattle.register.specs.History.{Got, got}
-use Rattle.register.specs.Demands.{Run, beginning, now, told}
+use Rattle.atomic.specs.History.{Got, got}
+use Rattle.atomic.specs.Demands.{Run, beginning, now, told}
 use Rattle.runfile.specs.RunFile.{readers, capacity, moves, starting-record, is-run-file, written}
 use Rattle.playing.specs.Play.{State, played, next, first-state, run-answers, run-state, run-tally}
 use Rattle.playing.specs.Play.{accepted-calls}

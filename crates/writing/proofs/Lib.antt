@@ -1,3 +1,3 @@
--- Laws of the writer's moves that their proofs cite. Assumes nothing.
-pub mod WriterSteps
-pub mod WriterBegins
+-- Laws of a begin of a write and of the writer's phases that their proofs cite. Assumes nothing.
+mod Beginning
+mod Phases

@@ -12,6 +12,10 @@
 //! assert_eq!(board.record_or(0, &[]), [8, 9]);
 //! # Ok::<(), linked::board::Refusal>(())
 //! ```
+//!
+//! `?` leaves the loop where a step is refused. A call that may change the area takes `&mut self`, so
+//! there is one call at a time, as the board wants it. Threads that share a board keep it in a `Mutex`,
+//! locked for the length of one call, never of a read or a write.
 
 use crate::exports::{self, Answer};
 use std::fmt;

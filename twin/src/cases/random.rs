@@ -95,9 +95,7 @@ fn longest(n: u8, c: u64, turn: u64) -> Vec<u8> {
 
 /// One read after another of the most words, each with the most digits.
 fn longest_text() -> Vec<u8> {
-    let Some(mut script) = Script::new(8, 32, &[u64::MAX; 32]) else {
-        panic!("sizes out of range");
-    };
+    let mut script = Script::new(8, 32, &[u64::MAX; 32]).expect("sizes in range");
     while script.run.moves.len() < MOST_MOVES {
         script.begin(7);
         let left = MOST_MOVES - script.run.moves.len();

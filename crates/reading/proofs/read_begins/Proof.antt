@@ -1,4 +1,4 @@
--- `reader::read_begins` meets its contract: each way through has its law. Assumes nothing.
+-- `read_begins` meets its contract: each way through has its law. Assumes nothing.
 use borrow.Author.Needs.{needs}
 use Rattle.reading.proofs.Reading.{no-reader, busy, begun}
 use Rattle.reading.proofs.read_begins.Statement.{statement}
@@ -8,7 +8,7 @@ refusal-requires : tie.Need-refusal-requires
 refusal-requires c κs = search needs
 
 returns : tie.Need-returns
-returns c = search (needs, no-reader)
+returns c = search no-reader
 
 desk-field-requires : tie.Need-desk-field-requires
 desk-field-requires c κs = search needs
@@ -20,7 +20,7 @@ same-length : tie.Need-same-length
 same-length c = search needs
 
 returns-2 : tie.Need-returns-2
-returns-2 c = search (needs, busy)
+returns-2 c = search busy
 
 set-desk-field-requires : tie.Need-set-desk-field-requires
 set-desk-field-requires c κs = search needs
@@ -32,7 +32,7 @@ same-length-2 : tie.Need-same-length-2
 same-length-2 c = search needs
 
 returns-3 : tie.Need-returns-3
-returns-3 c = search (needs, begun)
+returns-3 c = search begun
 
 pub read-begins-spec : {M : Type 1} → statement M
 read-begins-spec =

@@ -1,4 +1,4 @@
--- `reader::reader_step` meets its contract: the phase picks the step, which meets its own. Assumes nothing.
+-- `reader_step` meets its contract: the phase picks the step, which meets its own. Assumes nothing.
 use borrow.Author.Needs.{needs}
 use Prim.Native.Nat.{_≤_}
 use native.Mathlib.Omega.{arith}
@@ -34,37 +34,37 @@ same-length : tie.Need-same-length
 same-length c = search needs
 
 returns : tie.Need-returns
-returns c = search (needs, idle)
+returns c = search idle
 
 same-length-2 : tie.Need-same-length-2
 same-length-2 c = search needs
 
 returns-2 : tie.Need-returns-2
-returns-2 c = search (needs, in-phase)
+returns-2 c = search in-phase
 
 same-length-3 : tie.Need-same-length-3
 same-length-3 c = search needs
 
 returns-3 : tie.Need-returns-3
-returns-3 c = search (needs, in-phase)
+returns-3 c = search in-phase
 
 same-length-4 : tie.Need-same-length-4
 same-length-4 c = search needs
 
 returns-4 : tie.Need-returns-4
-returns-4 c = search (needs, in-phase)
+returns-4 c = search in-phase
 
 same-length-5 : tie.Need-same-length-5
 same-length-5 c = search needs
 
 returns-5 : tie.Need-returns-5
-returns-5 c = search (needs, in-phase)
+returns-5 c = search in-phase
 
 same-length-6 : tie.Need-same-length-6
 same-length-6 c = search needs
 
 returns-6 : tie.Need-returns-6
-returns-6 c = search (needs, in-phase)
+returns-6 c = search in-phase
 
 same-length-7 : tie.Need-same-length-7
 same-length-7 c = search needs
@@ -72,7 +72,7 @@ same-length-7 c = search needs
 returns-7 : tie.Need-returns-7
 returns-7 c =
     let h : 6 ≤ c .before .before .desk-field .result = omega (arith, c .before .match .rest) in
-    search (needs, past-phases)
+    search past-phases
 
 pub reader-step-spec : {M : Type 1} → statement M
 reader-step-spec =

@@ -1,4 +1,4 @@
--- `writer::copies_in` meets its contract: what is left of the copy makes the whole copy's words. Assumes nothing.
+-- `copies_in` meets its contract: what is left of the copy makes the whole copy's words. Assumes nothing.
 use borrow.Author.Needs.{needs}
 use Prim.Native.Nat.{_-_}
 use lib.ListN.{length}

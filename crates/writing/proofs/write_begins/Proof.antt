@@ -1,6 +1,8 @@
--- `writer::write_begins` meets its contract: each refusal in its order, then the stores of the plan. Assumes nothing.
+-- `write_begins` meets its contract: each refusal in its order, then the stores of the plan. Assumes nothing.
 use borrow.Author.Needs.{needs}
-use Rattle.writing.proofs.WriterBegins.{too-long, still-writing, no-more-writes, begun}
+use mathlib.Core.Path.{_∙_}
+use Rattle.answer.proofs.Stored.{still-sized}
+use Rattle.writing.proofs.Beginning.{too-long, still-writing, no-more-writes, begun}
 use Rattle.writing.proofs.write_begins.Statement.{statement}
 use Rattle.writing.proofs.write_begins.Tie as tie
 
@@ -19,7 +21,7 @@ same-length c = search needs
 returns : tie.Need-returns
 returns c =
     let long = c .before in
-    let start = long .before .before .before .before .before .before .before in
+    let start = long .before .before .before .before .before .before in
     too-long (start .args .p) (start .args .area .now) (start .args .words .now) (long .if1 .taken)
     (c .refusal .ensures)
 
@@ -33,7 +35,7 @@ returns-2 : tie.Need-returns-2
 returns-2 c =
     let busy = c .before in
     let fits = busy .before in
-    let phase = fits .before .before .before in
+    let phase = fits .before .before in
     let start = phase .before .before .before .before in
     still-writing (start .args .p) (start .args .area .now) (start .args .words .now) (fits .if1 .left)
     (phase .writer-field .ensures) (busy .if2 .taken) (c .refusal2 .ensures)
@@ -50,7 +52,7 @@ returns-3 c =
     let idle = full .before in
     let fits = idle .before in
     let ended = fits .before in
-    let phase = ended .before .before in
+    let phase = ended .before in
     let start = phase .before .before .before .before in
     no-more-writes (start .args .p) (start .args .area .now) (start .args .words .now) (fits .if1 .left)
     (phase .writer-field .ensures) (idle .if2 .left) (ended .writer-field2 .ensures) (full .if3 .taken)
@@ -60,13 +62,19 @@ copies-in-requires : tie.Need-copies-in-requires
 copies-in-requires c κs = search needs
 
 sets-out-requires : tie.Need-sets-out-requires
-sets-out-requires c κs = search needs
+sets-out-requires c κs =
+    let first = c .before .before .before in
+    let start = first .before .before .before .before .before .before .before .before .before .before in
+    still-sized (start .pre .sized) (first .copies-in .kept .0)
 
 accepted-requires : tie.Need-accepted-requires
 accepted-requires c κs = search needs
 
 same-length-4 : tie.Need-same-length-4
-same-length-4 c = search needs
+same-length-4 c =
+    let second = c .before .before .before in
+    let first = second .before .before .before .before in
+    second .sets-out .kept .0 ∙ first .copies-in .kept .0
 
 returns-4 : tie.Need-returns-4
 returns-4 c =
@@ -76,7 +84,7 @@ returns-4 c =
     let idle = more .before in
     let fits = idle .before in
     let ended = fits .before in
-    let phase = ended .before .before in
+    let phase = ended .before in
     let start = phase .before .before .before .before in
     begun (start .args .p) (start .args .area .now) (start .args .words .now) (fits .if1 .left)
     (phase .writer-field .ensures) (idle .if2 .left) (ended .writer-field2 .ensures) (more .if3 .left)

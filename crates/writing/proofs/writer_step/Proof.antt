@@ -1,8 +1,8 @@
--- `writer::writer_step` meets its contract: each phase has its own step, and none is past 7. Assumes nothing.
+-- `writer_step` meets its contract: each phase has its own step, and none is past 7. Assumes nothing.
 use borrow.Author.Needs.{needs}
 use native.Mathlib.Omega.{arith}
 use Rattle.answer.proofs.Stored.{refuses}
-use Rattle.writing.proofs.WriterSteps.{in-phase, no-other-phase}
+use Rattle.writing.proofs.Phases.{in-phase, no-other-phase}
 use Rattle.writing.proofs.writer_step.Statement.{statement}
 use Rattle.writing.proofs.writer_step.Tie as tie
 

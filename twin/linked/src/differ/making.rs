@@ -26,7 +26,7 @@ fn words_lent(random: &mut Random, n: u64, c: u64) -> u64 {
 
 pub fn run(session: &Session, on: &mut dyn Driven) -> Result<(), Box<Difference>> {
     let mut random = Random(session.seed);
-    for _ in 0..session.calls.div_ceil(2) {
+    for _ in 0..(session.calls + 1) / 2 {
         let form = if random.upto(9) == 0 { one_of(&mut random, &FORMS) } else { FORM };
         let n = one_of(&mut random, &READERS);
         // Large areas take long to fill: most cases are small.

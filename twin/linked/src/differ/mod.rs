@@ -66,16 +66,13 @@ impl fmt::Display for Session {
 impl Session {
     /// Reads what `Display` writes: KIND N C SEED CALLS.
     pub fn parse(fields: &[&str]) -> Option<Session> {
-        let [kind, numbers @ ..] = fields else {
-            return None;
-        };
+        let (kind, numbers) = fields.split_first()?;
         let (kind, _) = KINDS.into_iter().find(|(_, name)| name == kind)?;
         let numbers: Vec<u64> = numbers.iter().filter_map(|field| field.parse().ok()).collect();
-        let [n, c, seed, calls] = numbers[..] else {
-            return None;
-        };
-        Layout::new(n, c)?;
-        Some(Session { kind, n, c, seed, calls })
+        match numbers[..] {
+            [n, c, seed, calls] => Layout::new(n, c).map(|_| Session { kind, n, c, seed, calls }),
+            _ => None,
+        }
     }
 
     /// Room for the most words that it lends.
@@ -88,8 +85,9 @@ impl Session {
 
     /// Does its deeds.
     pub fn run(&self, on: &mut dyn Driven) -> Result<(), Box<Difference>> {
-        let Some(at) = Layout::new(self.n, self.c) else {
-            return Ok(());
+        let at = match Layout::new(self.n, self.c) {
+            Some(at) => at,
+            None => return Ok(()),
         };
         match self.kind {
             Kind::Lively => lively::run(self, &at, on),

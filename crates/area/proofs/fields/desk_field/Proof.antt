@@ -4,8 +4,8 @@ use Rattle.area.proofs.Words.{desk-field-is}
 use Rattle.area.proofs.fields.desk_field.Statement.{statement}
 use Rattle.area.proofs.fields.desk_field.Tie as tie
 
-desk-requires : tie.Need-desk-requires
-desk-requires c κs = search needs
+desk-word-requires : tie.Need-desk-word-requires
+desk-word-requires c κs = search needs
 
 mul-result : tie.Need-mul-result
 mul-result c = search needs
@@ -17,7 +17,7 @@ returns : tie.Need-returns
 returns c =
     let b = c .before .before .before in
     desk-field-is (b .args .p .n) (b .args .p .c) (b .args .area .now)
-    (b .args .f) (b .args .r) (b .pre .2) (b .pre .1) (c .before .desk .ensures .0)
+    (b .args .f) (b .args .r) (b .pre .2) (b .pre .1) (c .before .desk-word .ensures .0)
 
 pub desk-field-spec : {M : Type 1} → statement M
-desk-field-spec = tie.close (tie.spec desk-requires mul-result shared-slice-read-result returns)
+desk-field-spec = tie.close (tie.spec desk-word-requires mul-result shared-slice-read-result returns)

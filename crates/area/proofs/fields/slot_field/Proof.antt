@@ -4,8 +4,8 @@ use Rattle.area.proofs.Words.{slot-field-is}
 use Rattle.area.proofs.fields.slot_field.Statement.{statement}
 use Rattle.area.proofs.fields.slot_field.Tie as tie
 
-slot-requires : tie.Need-slot-requires
-slot-requires c κs = search needs
+slot-word-requires : tie.Need-slot-word-requires
+slot-word-requires c κs = search needs
 
 mul-result : tie.Need-mul-result
 mul-result c = search needs
@@ -17,7 +17,7 @@ returns : tie.Need-returns
 returns c =
     let b = c .before .before .before in
     slot-field-is (b .args .p .n) (b .args .p .c) (b .args .area .now)
-    (b .args .f) (b .args .s) (b .pre .2) (b .pre .1) (c .before .slot .ensures .0)
+    (b .args .f) (b .args .s) (b .pre .2) (b .pre .1) (c .before .slot-word .ensures .0)
 
 pub slot-field-spec : {M : Type 1} → statement M
-slot-field-spec = tie.close (tie.spec slot-requires mul-result shared-slice-read-result returns)
+slot-field-spec = tie.close (tie.spec slot-word-requires mul-result shared-slice-read-result returns)

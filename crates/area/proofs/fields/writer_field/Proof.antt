@@ -4,8 +4,8 @@ use Rattle.area.proofs.Words.{writer-field-is}
 use Rattle.area.proofs.fields.writer_field.Statement.{statement}
 use Rattle.area.proofs.fields.writer_field.Tie as tie
 
-own-requires : tie.Need-own-requires
-own-requires c κs = search needs
+writer-word-requires : tie.Need-writer-word-requires
+writer-word-requires c κs = search needs
 
 mul-result : tie.Need-mul-result
 mul-result c = search needs
@@ -17,7 +17,7 @@ returns : tie.Need-returns
 returns c =
     let b = c .before .before .before in
     writer-field-is (b .args .p .n) (b .args .p .c) (b .args .area .now)
-    (b .args .f) (b .pre .1) (c .before .own .ensures .0)
+    (b .args .f) (b .pre .1) (c .before .writer-word .ensures .0)
 
 pub writer-field-spec : {M : Type 1} → statement M
-writer-field-spec = tie.close (tie.spec own-requires mul-result shared-slice-read-result returns)
+writer-field-spec = tie.close (tie.spec writer-word-requires mul-result shared-slice-read-result returns)

@@ -1,7 +1,7 @@
 -- `header::layout` meets its contract: an area has a header, and its N and C are in range. Assumes nothing.
 use borrow.Author.Needs.{needs}
 use native.Mathlib.Omega.{arith}
-use Rattle.register.proofs.Called.{AreaFacts, area-facts}
+use Rattle.register.proofs.Facts.{AreaFacts, area-facts}
 use Rattle.area.proofs.header.layout.Statement.{statement}
 use Rattle.area.proofs.header.layout.Tie as tie
 

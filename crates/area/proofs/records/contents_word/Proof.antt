@@ -5,11 +5,11 @@ use Rattle.area.proofs.Words.{contents-is}
 use Rattle.area.proofs.records.contents_word.Statement.{statement}
 use Rattle.area.proofs.records.contents_word.Tie as tie
 
-add-slot : tie.Need-add-slot
-add-slot c = search needs
+add-slot-word : tie.Need-add-slot-word
+add-slot-word c = search needs
 
-slot-requires : tie.Need-slot-requires
-slot-requires c κs = search needs
+slot-word-requires : tie.Need-slot-word-requires
+slot-word-requires c κs = search needs
 
 mul-result : tie.Need-mul-result
 mul-result c = search needs
@@ -21,8 +21,8 @@ returns : tie.Need-returns
 returns c =
     let b = c .before .before .before .args in
     contents-is (b .p .n) (b .p .c) (b .area .now) (b .s) (b .j)
-    (omega arith) (omega arith) (c .before .slot .ensures .0)
+    (omega arith) (omega arith) (c .before .slot-word .ensures .0)
 
 pub contents-word-spec : {M : Type 1} → statement M
 contents-word-spec =
-    tie.close (tie.spec add-slot slot-requires mul-result shared-slice-read-result returns)
+    tie.close (tie.spec add-slot-word slot-word-requires mul-result shared-slice-read-result returns)

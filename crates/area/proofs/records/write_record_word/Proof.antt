@@ -5,11 +5,11 @@ use Rattle.area.proofs.Words.{write-record-is}
 use Rattle.area.proofs.records.write_record_word.Statement.{statement}
 use Rattle.area.proofs.records.write_record_word.Tie as tie
 
-add-own : tie.Need-add-own
-add-own c = search needs
+add-writer-word : tie.Need-add-writer-word
+add-writer-word c = search needs
 
-own-requires : tie.Need-own-requires
-own-requires c κs = search needs
+writer-word-requires : tie.Need-writer-word-requires
+writer-word-requires c κs = search needs
 
 mul-result : tie.Need-mul-result
 mul-result c = search needs
@@ -20,8 +20,8 @@ shared-slice-read-result c = search needs
 returns : tie.Need-returns
 returns c =
     let b = c .before .before .before .args in
-    write-record-is (b .p .n) (b .p .c) (b .area .now) (b .j) (omega arith) (c .before .own .ensures .0)
+    write-record-is (b .p .n) (b .p .c) (b .area .now) (b .j) (omega arith) (c .before .writer-word .ensures .0)
 
 pub write-record-word-spec : {M : Type 1} → statement M
 write-record-word-spec =
-    tie.close (tie.spec add-own own-requires mul-result shared-slice-read-result returns)
+    tie.close (tie.spec add-writer-word writer-word-requires mul-result shared-slice-read-result returns)

@@ -4,11 +4,11 @@ use Rattle.area.proofs.Words.{contents-set}
 use Rattle.area.proofs.stores.set_contents.Statement.{statement}
 use Rattle.area.proofs.stores.set_contents.Tie as tie
 
-add-slot : tie.Need-add-slot
-add-slot c = search needs
+add-slot-word : tie.Need-add-slot-word
+add-slot-word c = search needs
 
-slot-requires : tie.Need-slot-requires
-slot-requires c κs = search needs
+slot-word-requires : tie.Need-slot-word-requires
+slot-word-requires c κs = search needs
 
 mul-area : tie.Need-mul-area
 mul-area c = search needs
@@ -22,8 +22,8 @@ same-length c = search needs
 returns : tie.Need-returns
 returns c =
     let b = c .before .before .args in
-    contents-set (b .p .n) (b .p .c) (b .area .now) (b .v) (b .s) (b .j) (c .slot .ensures .0)
+    contents-set (b .p .n) (b .p .c) (b .area .now) (b .v) (b .s) (b .j) (c .slot-word .ensures .0)
 
 pub set-contents-spec : {M : Type 1} → statement M
 set-contents-spec =
-    tie.close (tie.spec add-slot slot-requires mul-area slice-write-area same-length returns)
+    tie.close (tie.spec add-slot-word slot-word-requires mul-area slice-write-area same-length returns)

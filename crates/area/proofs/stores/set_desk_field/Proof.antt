@@ -4,8 +4,8 @@ use Rattle.area.proofs.Words.{desk-field-set}
 use Rattle.area.proofs.stores.set_desk_field.Statement.{statement}
 use Rattle.area.proofs.stores.set_desk_field.Tie as tie
 
-desk-requires : tie.Need-desk-requires
-desk-requires c κs = search needs
+desk-word-requires : tie.Need-desk-word-requires
+desk-word-requires c κs = search needs
 
 mul-area : tie.Need-mul-area
 mul-area c = search needs
@@ -19,8 +19,8 @@ same-length c = search needs
 returns : tie.Need-returns
 returns c =
     let b = c .before .before .args in
-    desk-field-set (b .p .n) (b .p .c) (b .area .now) (b .v) (b .f) (b .r) (c .desk .ensures .0)
+    desk-field-set (b .p .n) (b .p .c) (b .area .now) (b .v) (b .f) (b .r) (c .desk-word .ensures .0)
 
 pub set-desk-field-spec : {M : Type 1} → statement M
 set-desk-field-spec =
-    tie.close (tie.spec desk-requires mul-area slice-write-area same-length returns)
+    tie.close (tie.spec desk-word-requires mul-area slice-write-area same-length returns)

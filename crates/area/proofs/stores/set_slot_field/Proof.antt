@@ -4,8 +4,8 @@ use Rattle.area.proofs.Words.{slot-field-set}
 use Rattle.area.proofs.stores.set_slot_field.Statement.{statement}
 use Rattle.area.proofs.stores.set_slot_field.Tie as tie
 
-slot-requires : tie.Need-slot-requires
-slot-requires c κs = search needs
+slot-word-requires : tie.Need-slot-word-requires
+slot-word-requires c κs = search needs
 
 mul-area : tie.Need-mul-area
 mul-area c = search needs
@@ -19,8 +19,8 @@ same-length c = search needs
 returns : tie.Need-returns
 returns c =
     let b = c .before .before .args in
-    slot-field-set (b .p .n) (b .p .c) (b .area .now) (b .v) (b .f) (b .s) (c .slot .ensures .0)
+    slot-field-set (b .p .n) (b .p .c) (b .area .now) (b .v) (b .f) (b .s) (c .slot-word .ensures .0)
 
 pub set-slot-field-spec : {M : Type 1} → statement M
 set-slot-field-spec =
-    tie.close (tie.spec slot-requires mul-area slice-write-area same-length returns)
+    tie.close (tie.spec slot-word-requires mul-area slice-write-area same-length returns)

@@ -4,11 +4,11 @@ use Rattle.area.proofs.Words.{write-record-set}
 use Rattle.area.proofs.stores.set_write_record.Statement.{statement}
 use Rattle.area.proofs.stores.set_write_record.Tie as tie
 
-add-own : tie.Need-add-own
-add-own c = search needs
+add-writer-word : tie.Need-add-writer-word
+add-writer-word c = search needs
 
-own-requires : tie.Need-own-requires
-own-requires c κs = search needs
+writer-word-requires : tie.Need-writer-word-requires
+writer-word-requires c κs = search needs
 
 mul-area : tie.Need-mul-area
 mul-area c = search needs
@@ -22,8 +22,8 @@ same-length c = search needs
 returns : tie.Need-returns
 returns c =
     let b = c .before .before .args in
-    write-record-set (b .p .n) (b .p .c) (b .area .now) (b .v) (b .j) (c .own .ensures .0)
+    write-record-set (b .p .n) (b .p .c) (b .area .now) (b .v) (b .j) (c .writer-word .ensures .0)
 
 pub set-write-record-spec : {M : Type 1} → statement M
 set-write-record-spec =
-    tie.close (tie.spec add-own own-requires mul-area slice-write-area same-length returns)
+    tie.close (tie.spec add-writer-word writer-word-requires mul-area slice-write-area same-length returns)

@@ -4,8 +4,8 @@ use Rattle.area.proofs.Words.{writer-field-set}
 use Rattle.area.proofs.stores.set_writer_field.Statement.{statement}
 use Rattle.area.proofs.stores.set_writer_field.Tie as tie
 
-own-requires : tie.Need-own-requires
-own-requires c κs = search needs
+writer-word-requires : tie.Need-writer-word-requires
+writer-word-requires c κs = search needs
 
 mul-area : tie.Need-mul-area
 mul-area c = search needs
@@ -19,8 +19,8 @@ same-length c = search needs
 returns : tie.Need-returns
 returns c =
     let b = c .before .before .args in
-    writer-field-set (b .p .n) (b .p .c) (b .area .now) (b .v) (b .f) (c .own .ensures .0)
+    writer-field-set (b .p .n) (b .p .c) (b .area .now) (b .v) (b .f) (c .writer-word .ensures .0)
 
 pub set-writer-field-spec : {M : Type 1} → statement M
 set-writer-field-spec =
-    tie.close (tie.spec own-requires mul-area slice-write-area same-length returns)
+    tie.close (tie.spec writer-word-requires mul-area slice-write-area same-length returns)

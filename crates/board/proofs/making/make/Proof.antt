@@ -1,51 +1,34 @@
--- `making::make` meets its contract: each test decides its answer, and after the last the words are filled.
--- Assumes nothing.
+-- `making::make` meets its contract: the test comes first, and behind it the words are filled. Assumes nothing.
 use borrow.Author.Needs.{needs}
-use Rattle.board.proofs.Fresh.{Taken, taken-of, made-unknown, made-other-length, made-too-long}
-use Rattle.board.proofs.Fresh.{made-sized, made-well}
+use native.Mathlib.Omega.{arith}
+use Rattle.board.proofs.Made.{made-refused, fits, made-sized, made-well}
 use Rattle.board.proofs.making.make.Statement.{statement}
 use Rattle.board.proofs.making.make.Tie as tie
 
--- the form is known, and N and C are in range
-taken : (c : tie.Else1) → let x = c .before .before .before .before .args in Taken (x .form) (x .n) (x .c)
-taken c = taken-of _ _ _ (c .before .in-range .ensures) (c .if1 .left)
-
-in-range-requires : tie.Need-in-range-requires
-in-range-requires c κs = search needs
+tested-requires : tie.Need-tested-requires
+tested-requires c κs = search needs
 
 refusal-requires : tie.Need-refusal-requires
 refusal-requires c κs = search needs
 
 returns : tie.Need-returns
 returns c =
-    made-unknown _ _ _ _ _ (c .refusal .ensures) (c .before .before .in-range .ensures) (c .before .if1 .taken)
+    let t = c .before .before in
+    made-refused _ _ _ _ _ (t .tested .ensures) (λ z. omega (arith, c .before .if1 .taken, z)) (c .refusal .ensures)
 
 new-requires : tie.Need-new-requires
-new-requires c κs = (taken c .few-readers, taken c .few-words)
-
-refusal-requires-2 : tie.Need-refusal-requires-2
-refusal-requires-2 c κs = search needs
-
-returns-2 : tie.Need-returns-2
-returns-2 c =
-    let b = c .before .before .before in
-    made-other-length (taken (b .before)) (b .new .ensures) _ _ (c .refusal2 .ensures) (c .before .if2 .taken)
-
-refusal-requires-3 : tie.Need-refusal-requires-3
-refusal-requires-3 c κs = search needs
-
-returns-3 : tie.Need-returns-3
-returns-3 c =
-    let b = c .before .before .before in
-    let l = b .before .before in
-    made-too-long (taken (l .before)) (l .new .ensures) _ _ (b .if2 .left) (c .refusal3 .ensures)
-    (c .before .if3 .taken)
+new-requires c κs =
+    let z = c .before .before .before .before .args in
+    let t = fits (z .form) (z .n) (z .c) (z .«record» .now) (z .area .now) (c .before .tested .ensures) (c .if1 .left) in
+    (t .taken .few-readers, t .taken .few-words)
 
 fill-requires : tie.Need-fill-requires
 fill-requires c κs =
-    let b = c .before .before .before in
-    let l = b .before .before in
-    (made-sized (taken (l .before)) (l .new .ensures) (b .if2 .left), c .before .if3 .left)
+    let b = c .before in
+    let e = b .before in
+    let z = e .before .before .before .before .args in
+    made-sized (z .form) (z .n) (z .c) (z .«record» .now) (z .area .now) (e .before .tested .ensures) (e .if1 .left)
+    (b .new .ensures)
 
 accepted-requires : tie.Need-accepted-requires
 accepted-requires c κs = search needs
@@ -53,27 +36,23 @@ accepted-requires c κs = search needs
 same-length : tie.Need-same-length
 same-length c = search needs
 
-returns-4 : tie.Need-returns-4
-returns-4 c =
+returns-2 : tie.Need-returns-2
+returns-2 c =
     let f = c .before .before .before in
-    let b = f .before .before .before .before in
-    let l = b .before .before in
-    made-well (taken (l .before)) (l .new .ensures) _ _ (b .if2 .left) (c .accepted .ensures)
-    (f .before .before .if3 .left) (f .fill .ensures)
+    let b = f .before .before in
+    let e = b .before in
+    made-well _ _ _ _ _ (e .before .tested .ensures) (e .if1 .left) (b .new .ensures) (c .accepted .ensures)
+    (f .fill .ensures)
 
 pub make-spec : {M : Type 1} → statement M
 make-spec =
     tie.close
     (tie.spec
-    in-range-requires
+    tested-requires
     refusal-requires
     returns
     new-requires
-    refusal-requires-2
-    returns-2
-    refusal-requires-3
-    returns-3
     fill-requires
     accepted-requires
     same-length
-    returns-4)
+    returns-2)

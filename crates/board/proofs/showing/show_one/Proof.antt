@@ -1,32 +1,51 @@
--- `showing::show_one` meets its contract: the record where it is the reader's, or the default. Assumes nothing.
+-- `showing::show_one` meets its contract: the words at the place that was found, or the default. Assumes nothing.
 use borrow.Author.Needs.{needs}
-use mathlib.Core.Path.{_≡_, _∙_}
-use mathlib.Core.Bool.{true}
-use Rattle.register.specs.Calls.{is-own}
-use Rattle.area.proofs.Asked.{was-no, was-yes}
-use Rattle.board.proofs.Shown.{own-area, own-facts, shown-default, shown-own}
+use Prim.Native.Nat.{_+_, _≤_}
+use lib.ListN.{length}
+use Rattle.board.proofs.Shown.{shown-default, own-within, shown-own}
 use Rattle.board.proofs.showing.show_one.Statement.{statement}
 use Rattle.board.proofs.showing.show_one.Tie as tie
 
-is-own-requires : tie.Need-is-own-requires
-is-own-requires c κs = search needs
+-- the end of the record
+within : (c : tie.Else1)
+    → let x = c .before .before in
+    x .place-of .result .at + x .place-of .result .len ≤ length (x .before .before .before .args .area .now)
+within c = own-within _ _ (c .before .before .place-of .ensures) (c .if1 .left)
+
+place-of-requires : tie.Need-place-of-requires
+place-of-requires c κs = search needs
 
 returns : tie.Need-returns
-returns c = shown-default _ _ _ (was-no (c .before .is-own .ensures) (c .if1 .taken))
+returns c = shown-default _ _ (c .before .before .place-of .ensures) _ (c .if1 .taken)
 
--- the record is the reader's
-own : (c : tie.Else1) → let b = c .before .before .before .before .args in is-own (b .area .now) (b .reader) ≡ true
-own c = was-yes (c .before .is-own .ensures) (c .if1 .left)
+add-end : tie.Need-add-end
+add-end c = let h = within c in search needs
 
-layout-requires : tie.Need-layout-requires
-layout-requires c κs = own-area _ _ (own c)
+mul-result : tie.Need-mul-result
+mul-result c = let h = within c in search needs
 
-desk-record-requires : tie.Need-desk-record-requires
-desk-record-requires c κs =
-    let o = own-facts _ _ (own (c .before)) _ (c .layout .ensures) in (o .ready, o .words, o .exists)
+sub-result : tie.Need-sub-result
+sub-result c = search needs
+
+part-result-start : tie.Need-part-result-start
+part-result-start c = search needs
+
+part-result-end : tie.Need-part-result-end
+part-result-end c = within c
 
 returns-2 : tie.Need-returns-2
-returns-2 c = c .desk-record .ensures ∙ shown-own _ _ _ _ (c .before .layout .ensures) (own (c .before .before))
+returns-2 c =
+    let l = c .before in shown-own _ _ (l .before .before .place-of .ensures) (l .if1 .left) _
 
 pub show-one-spec : {M : Type 1} → statement M
-show-one-spec = tie.close (tie.spec is-own-requires returns layout-requires desk-record-requires returns-2)
+show-one-spec =
+    tie.close
+    (tie.spec
+    place-of-requires
+    returns
+    add-end
+    mul-result
+    sub-result
+    part-result-start
+    part-result-end
+    returns-2)

@@ -2,6 +2,7 @@
 -- Assumes nothing.
 use borrow.Author.Needs.{needs}
 use mathlib.Core.Path.{_∙_}
+use native.Mathlib.Omega.{arith}
 use Rattle.register.specs.Steps.{write}
 use Rattle.board.proofs.Answering.{test-refuses, passes, ready, carries-out}
 use Rattle.board.proofs.writes.begin_write.Statement.{statement}
@@ -21,7 +22,7 @@ returns c =
     let t = c .before .before in
     let z = t .before .before .before .before .args in
     test-refuses (z .area .now) (write (z .words .now)) (t .tested .ensures)
-    (c .before .if1 .taken) (c .refusal .ensures)
+    (λ z. omega (arith, c .before .if1 .taken, z)) (c .refusal .ensures)
 
 layout-requires : tie.Need-layout-requires
 layout-requires c κs =

@@ -1,0 +1,31 @@
+-- The proofs, from the ground up. Assumes nothing.
+pub mod Sums
+mod Balance
+pub mod Moves
+pub mod Counting
+pub mod Held
+mod WriterDesk
+pub mod Stays
+mod Placed
+mod Inserting
+mod Lining
+mod Copying
+mod Told
+mod Telling
+mod StepCounts
+mod Bounds
+mod Dates
+pub mod Clean
+pub mod Planned
+mod Going
+pub mod Called
+pub mod Observed
+mod Others
+pub mod Intact
+pub mod Making
+pub mod Made
+pub mod Promise
+pub mod Ending
+mod Moments
+pub mod Complete
+pub mod InputA

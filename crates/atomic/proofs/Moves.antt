@@ -1,0 +1,90 @@
+-- The accepted moves as a relation on memories: one constructor for each way through the steps. Assumes nothing.
+use mathlib.Core.Path.{_≡_}
+use mathlib.Core.Logic.{_≢_}
+use mathlib.Core.Bool.{true, false, cond}
+use mathlib.Core.List.{List, [], _∷_, _++_}
+use Prim.Native.Nat.{ℕ, suc, _-_, _≤_, _<_}
+use lib.Dec.{eqb, ltb}
+use lib.ListN.{length, getD}
+use Rattle.register.specs.Place.{Record, Memory, Store, _≔_, apply}
+use Rattle.register.specs.Area.{current, index, counter, r-start, r-end, size, slot-write-number, contents}
+use Rattle.register.specs.Area.{limit, most-writes}
+use Rattle.register.specs.Area.{phase, last, pos, len, desk-write-number, read-record}
+use Rattle.register.specs.Area.{writer-phase, last-slot, in-hand, writer-pos, writer-len, writes-ended}
+use Rattle.register.specs.Area.{write-record}
+use Rattle.register.specs.Steps.{sets-phase, unbinds, binds, takes, copies, finishes, passes, sizes, clears-start}
+use Rattle.register.specs.Steps.{sets-out, clears-end}
+use Rattle.register.specs.Steps.{publishes, freezes}
+use Rattle.atomic.specs.History.{Got, Deed, Event, read-began, write-began, went-on, looked, published}
+use Rattle.atomic.specs.History.{read-ended, write-ended}
+use Rattle.register.proofs.Places.{row}
+
+abbrev pub by : ℕ → Deed → Event
+by p d = record { who = p; what = d }
+
+-- the memory with a record copied into the writer's desk
+abbrev pub desk-with : Memory → Record → Memory
+desk-with m v p =
+    cond (eqb (p .part) 3)
+    (cond (eqb (p .field) 7)
+    (cond (eqb (p .row) 0) (cond (ltb (p .column) (length v)) (getD v (p .column) 0) (m p)) (m p)) (m p))
+    (m p)
+
+-- the writer in a phase
+abbrev pub to-phase : ℕ → List Store
+to-phase k = writer-phase ≔ k ∷ []
+
+-- one word filled in, and the phase after it
+abbrev pub fills-to : Memory → ℕ → List Store
+fills-to m k =
+    contents (m in-hand) (m writer-pos) ≔ m (write-record (m writer-pos)) ∷ writer-pos ≔ suc (m writer-pos)
+    ∷ to-phase k
+
+-- the record in reader r's desk
+abbrev pub desk-record : Memory → ℕ → Record
+desk-record m r = row (m (len r)) (λ i. m (read-record r i))
+
+-- what a read gets that ends now with a write number and a record
+abbrev pub got-now : Memory → ℕ → Record → Got
+got-now m k v = record { age = m writes-ended - k; number = k; own = true; shows = v }
+
+pub data Does (n c : ℕ) (m : Memory) : Event → Memory → Type 0 where
+  read-starts : (r : ℕ) → r < n → m (phase r) ≡ 0 → Does n c m (by r read-began) (apply m (sets-phase r 1))
+  finds-same : (r : ℕ) → r < n → m (phase r) ≡ 1 → index (m current) ≡ m (last r)
+      → Does n c m (by r (went-on 1)) (apply m (sets-phase r 4))
+  finds-other : (r : ℕ) → r < n → m (phase r) ≡ 1 → index (m current) ≢ m (last r)
+      → Does n c m (by r (went-on 1)) (apply m (sets-phase r 2))
+  leaves-slot : (r : ℕ) → r < n → m (phase r) ≡ 2 → m (r-end (m (last r))) < limit n
+      → Does n c m (by r (went-on 2)) (apply m (unbinds m r))
+  joins-slot : (r : ℕ) → r < n → m (phase r) ≡ 3 → counter (m current) < limit n
+      → Does n c m (by r (went-on 3)) (apply m (binds m r))
+  takes-none : (r : ℕ) → r < n → m (phase r) ≡ 4 → m (size (m (last r))) ≡ 0
+      → Does n c m (by r (read-ended (got-now m (m (slot-write-number (m (last r)))) [])))
+      (apply m (takes m r ++ finishes r))
+  takes-size : (r : ℕ) → r < n → m (phase r) ≡ 4 → m (size (m (last r))) ≢ 0
+      → Does n c m (by r (went-on 4)) (apply m (takes m r ++ sets-phase r 5))
+  copies-word : (r : ℕ) → r < n → m (phase r) ≡ 5 → suc (m (pos r)) ≢ m (len r)
+      → Does n c m (by r (went-on 5)) (apply m (copies m r))
+  copies-last : (r : ℕ) → r < n → m (phase r) ≡ 5 → suc (m (pos r)) ≡ m (len r)
+      → Does n c m (by r (read-ended (got-now m (m (desk-write-number r)) (desk-record (apply m (copies m r)) r))))
+      (apply m (copies m r ++ finishes r))
+  write-starts : (v : Record) → length v ≤ c → m writer-phase ≡ 0 → m writes-ended < most-writes
+      → Does n c m (by n (write-began v)) (apply (desk-with m v) (sets-out v))
+  picks-empty : m writer-phase ≡ 1 → m in-hand ≢ m last-slot → m (r-start (m in-hand)) ≡ m (r-end (m in-hand))
+      → m writer-len ≡ 0
+      → Does n c m (by n looked) (apply m (to-phase 3))
+  picks-slot : m writer-phase ≡ 1 → m in-hand ≢ m last-slot → m (r-start (m in-hand)) ≡ m (r-end (m in-hand))
+      → m writer-len ≢ 0
+      → Does n c m (by n looked) (apply m (to-phase 2))
+  passes-slot : m writer-phase ≡ 1
+      → (m in-hand ≢ m last-slot → m (r-start (m in-hand)) ≢ m (r-end (m in-hand))) → m in-hand ≢ suc n
+      → Does n c m (by n looked) (apply m (passes m))
+  fills-word : m writer-phase ≡ 2 → suc (m writer-pos) ≢ m writer-len
+      → Does n c m (by n (went-on 2)) (apply m (fills-to m 2))
+  fills-last : m writer-phase ≡ 2 → suc (m writer-pos) ≡ m writer-len
+      → Does n c m (by n (went-on 2)) (apply m (fills-to m 3))
+  sets-size : m writer-phase ≡ 3 → Does n c m (by n (went-on 3)) (apply m (sizes m))
+  clears-first : m writer-phase ≡ 4 → Does n c m (by n (went-on 4)) (apply m (clears-start m))
+  clears-second : m writer-phase ≡ 5 → Does n c m (by n (went-on 5)) (apply m (clears-end m))
+  exchanges : m writer-phase ≡ 6 → Does n c m (by n (published false)) (apply m (publishes m))
+  write-ends : m writer-phase ≡ 7 → Does n c m (by n write-ended) (apply m (freezes m))

@@ -1,0 +1,174 @@
+-- What the history sees of an accepted call is what the call did.
+--     Says, says                          what each deed says of the memories before and after
+--     shows-desk                          the record that showing gives is the one in the desk
+--     same-ended                          a step answers "ended" where its plan ends
+--     observed                            the event of an accepted call is that of its move
+-- Assumes nothing.
+use mathlib.Core.Path.{_≡_, refl, sym, ap, subst, _∙_}
+use mathlib.Core.Bool.{Bool, true, false, cond, _&&_}
+use mathlib.Core.List.{List, []}
+use Prim.Native.Nat.{ℕ, _+_, _≤_, _<_}
+use native.Mathlib.Nat.{mul-le-mul-right}
+use native.Mathlib.Omega.{arith}
+use lib.Dec.{ltb, ltb→lt, lt→ltb, lit<}
+use lib.ListN.{length, getD}
+use borrow.Author.Tests.{eq-eqb, lt-ltb}
+use Rattle.register.specs.Place.{Memory, apply}
+use Rattle.register.specs.Table.{total, address}
+use Rattle.register.specs.Area.{phase, len, finished, desk-write-number, read-record, writer-phase}
+use Rattle.register.specs.Area.{readers, capacity, table, memory}
+use Rattle.register.specs.Calls.{age-of, carried-out, stepped, own-tests, is-own, words-from, shown}
+use Rattle.atomic.specs.History.{got, Deed, Event, read-began, write-began, went-on, looked, published}
+use Rattle.atomic.specs.History.{read-ended}
+use Rattle.atomic.specs.History.{write-ended, reader-deed, writer-deed, event}
+use Rattle.register.specs.Steps.{Move, read, write, step, mover}
+use Rattle.register.proofs.Tests.{passed, true-passes, all-pass, eqb-same}
+use Rattle.register.specs.Lists.{none, also}
+use Rattle.register.proofs.Places.{row-same}
+use Rattle.register.proofs.Tables.{view-here, words-row}
+use Rattle.register.proofs.Form1.{body-read-record}
+use Rattle.atomic.proofs.Moves
+use Rattle.atomic.proofs.Moves.{Does, by, desk-record}
+use Rattle.atomic.proofs.Planned.{seen, seen-got, seen-reader, seen-writer}
+use Rattle.atomic.proofs.Called.{Opened, does, after-head, after-area, after-view, after-memory, after-exact}
+use Rattle.atomic.proofs.Called.{after-whole, after-sound}
+
+-- what a deed of process p says of the memories before and after: a reader that begins is one of the n, one whose read
+-- has ended is idle and has finished; a publication ends nothing, and a write ends in phase 7
+abbrev pub Says : ℕ → ℕ → Deed → Memory → Memory → Type 0
+Says n p read-began m m′ = p < n
+Says n p (write-began v) m m′ = Unit {0}
+Says n p (went-on k) m m′ = Unit {0}
+Says n p looked m m′ = Unit {0}
+Says n p (published ended) m m′ = ended ≡ false
+Says n p (read-ended g) m m′ = (m′ (phase p) ≡ 0) × (m′ (finished p) ≡ 1)
+Says n p write-ended m m′ = m writer-phase ≡ 7
+
+pub says : {n c : ℕ} {m m′ : Memory} {e : Event} → Does n c m e m′ → Says n (e .who) (e .what) m m′
+says (Moves.read-starts r l e) = l
+says (Moves.finds-same r l e x) = tt
+says (Moves.finds-other r l e x) = tt
+says (Moves.leaves-slot r l e x) = tt
+says (Moves.joins-slot r l e x) = tt
+says (Moves.takes-none r l e x) = rw (eqb-same r) (refl, refl)
+says (Moves.takes-size r l e x) = tt
+says (Moves.copies-word r l e x) = tt
+says (Moves.copies-last r l e x) = rw (eqb-same r) (refl, refl)
+says (Moves.write-starts u l e more) = tt
+says (Moves.picks-empty e d x y) = tt
+says (Moves.picks-slot e d x y) = tt
+says (Moves.passes-slot e d x) = tt
+says (Moves.fills-word e x) = tt
+says (Moves.fills-last e x) = tt
+says (Moves.sets-size e) = tt
+says (Moves.clears-first e) = tt
+says (Moves.clears-second e) = tt
+says (Moves.exchanges e) = refl
+says (Moves.write-ends e) = e
+
+-- the record that showing gives is the one in the desk
+pub shows-desk : (a : List ℕ) (r : ℕ) → length a ≡ total (table a) → r < readers a
+    → memory a (len r) ≤ capacity a
+    → words-from a (address (table a) (read-record r 0)) (memory a (len r)) ≡ desk-record (memory a) r
+shows-desk a r e l k =
+    words-row a start (memory a (len r)) (omega (arith, e, mul-le-mul-right (6 + capacity a) l, k))
+    ∙ row-same (memory a (len r)) (λ j. getD a (start + j) 0) (λ j. memory a (read-record r j)) word
+  where
+    start : ℕ
+    start = address (table a) (read-record r 0)
+
+    word : (j : ℕ) → j < memory a (len r) → getD a (start + j) 0 ≡ memory a (read-record r j)
+    word j h =
+        let here : start + j ≡ address (table a) (read-record r j) = omega arith in
+        let there = body-read-record (readers a) (capacity a) r j l (omega (arith, h, k)) in
+        ap (λ i. getD a i 0) here ∙ sym (view-here (table a) a (read-record r j) (there .has))
+
+-- ---- a step of reader p that ended its read
+
+module _ (a : List ℕ) (p : ℕ) (o : Opened a (step p)) where
+  abbrev m′ : Memory
+  m′ = apply (memory a) (o .stores)
+
+  abbrev b : List ℕ
+  b = stepped a p .area
+
+  pub same-ended : stepped a p .ended ≡ o .ends
+  unfolding carried-out
+  same-ended = ap (λ r. r .ended) (o .answers)
+
+  module _ (l : p < readers a) (e : o .ends ≡ true) where
+    reader-rests : (m′ (phase p) ≡ 0) × (m′ (finished p) ≡ 1)
+    reader-rests =
+        let deed : seen (readers a) (memory a) (step p) (o .ends) m′ ≡ read-ended (seen-got m′ p) =
+        rw (lt-ltb p (readers a) l, e) in
+        subst (λ d. Says (readers a) p d (memory a) m′) deed (says (does o .0))
+
+    still : p < readers b
+    still = subst (λ k. p < k) (sym (after-head o 1 (lit< tt))) l
+
+    own-record : is-own b p ≡ true
+    unfolding is-own
+    own-record =
+        passed _
+        (all-pass (own-tests b p)
+        (also (true-passes _ (after-area o))
+        (also (true-passes _ (after-sound o))
+        (also (lt→ltb _ _ still)
+        (also (true-passes _ (eq-eqb _ _ (ap (λ m. m (phase p)) (after-memory o) ∙ reader-rests .0)))
+        (also (true-passes _ (eq-eqb _ _ (ap (λ m. m (finished p)) (after-memory o) ∙ reader-rests .1)))
+        none))))))
+
+    shows-record : shown b p [] ≡ desk-record m′ p
+    unfolding shown
+    shows-record =
+        ap (λ t. cond t (words-from b (address (table b) (read-record p 0)) (memory b (len p))) []) own-record
+        ∙ shows-desk b p (after-exact o) still few
+        ∙ ap (λ m. desk-record m p) (after-memory o)
+      where
+        few : memory b (len p) ≤ capacity b
+        few = subst (λ k. memory b (len p) ≤ k) (sym (after-head o 2 (lit< tt))) (after-whole o .desk p l .words)
+
+    same-age : stepped a p .age ≡ age-of m′ p
+    unfolding carried-out
+    same-age =
+        ap (λ r. r .age) (o .answers)
+        ∙ (λ i. cond (e i && lt-ltb p (readers a) l i) (age-of (after-view o i) p) 0)
+
+    same-got : got p (stepped a p) ≡ seen-got m′ p
+    same-got = λ i. record {
+      age = same-age i;
+      number = after-memory o i (desk-write-number p);
+      own = own-record i;
+      shows = shows-record i;
+    }
+
+  reader-observed : p < readers a → reader-deed p (memory a (phase p)) (stepped a p)
+      ≡ seen-reader (memory a) p (o .ends) m′
+  reader-observed l = ap Seen same-ended ∙ go (o .ends) refl
+    where
+      Seen : Bool → Deed
+      Seen ends = cond ends (read-ended (got p (stepped a p))) (went-on (memory a (phase p)))
+
+      go : (t : Bool) → o .ends ≡ t
+          → Seen t ≡ cond t (read-ended (seen-got m′ p)) (went-on (memory a (phase p)))
+      go true e = ap read-ended (same-got l e)
+      go false e = refl
+
+-- ---- every accepted call
+
+pub observed : (a : List ℕ) (x : Move) (o : Opened a x)
+    → event a x ≡ by (mover (readers a) x) (seen (readers a) (memory a) x (o .ends) (apply (memory a) (o .stores)))
+observed a (read r) o = refl
+observed a (write v) o = refl
+observed a (step p) o = λ i. record { who = p; what = what i }
+  where
+    what : event a (step p) .what ≡ seen (readers a) (memory a) (step p) (o .ends) (apply (memory a) (o .stores))
+    what = go (ltb p (readers a)) refl
+      where
+        go : (t : Bool) → ltb p (readers a) ≡ t
+            → cond t (reader-deed p (memory a (phase p)) (stepped a p))
+            (writer-deed (memory a writer-phase) (stepped a p))
+            ≡ cond t (seen-reader (memory a) p (o .ends) (apply (memory a) (o .stores)))
+            (seen-writer (memory a writer-phase) (o .ends))
+        go true e = reader-observed a p o (ltb→lt p (readers a) (true-passes _ e))
+        go false e = ap (seen-writer (memory a writer-phase)) (same-ended a p o)

@@ -1,0 +1,42 @@
+-- What the memory of form 1 holds and what its run has told, as one invariant: the current slot and every slot that a
+-- reader
+-- is bound to hold whole writes, the writer's desk and the slot in hand what was given. Assumes nothing.
+use mathlib.Core.Path.{_≡_}
+use mathlib.Core.List.{List}
+use Prim.Native.Nat.{ℕ, _≤_, _<_}
+use lib.ListN.{length}
+use Rattle.register.specs.Place.{Record, Memory}
+use Rattle.register.specs.Area.{current, index, size, slot-write-number, contents}
+use Rattle.register.specs.Area.{phase, last, pos, len, desk-write-number, read-record}
+use Rattle.register.specs.Area.{writer-phase, in-hand, writer-pos, writer-len, writes-ended, write-record}
+use Rattle.atomic.specs.History.{Write, History}
+use Rattle.register.proofs.Places.{row}
+use Rattle.atomic.proofs.Placed.{Sound, newest}
+use Rattle.atomic.proofs.Copying.{Reading, Writing}
+
+module _ (n : ℕ) (first : Record) where
+  abbrev pub Reads : Memory → History → ℕ → Type 0
+  Reads m h r =
+      Reading 4 first (h .began r) (h .moves) (h .writes) (m (phase r)) (m (len r)) (m (pos r))
+      (m (desk-write-number r))
+      (λ j. m (read-record r j)) (m (size (m (last r)))) (m (slot-write-number (m (last r))))
+      (λ j. m (contents (m (last r)) j))
+
+  abbrev pub Writes : Memory → History → Type 0
+  Writes m h =
+      Writing 7 (h .given) (length (h .writes)) (m writer-phase) (m writer-len) (m writer-pos) (m writes-ended)
+      (λ j. m (write-record j)) (m (size (m in-hand))) (m (slot-write-number (m in-hand)))
+      (λ j. m (contents (m in-hand) j))
+
+  -- the current slot holds the newest write, whole, and its number
+  abbrev pub Newest : Memory → List Write → Type 0
+  Newest m writes =
+      (row (m (size (index (m current)))) (λ j. m (contents (index (m current)) j)) ≡ newest first writes)
+      × (m (slot-write-number (index (m current))) ≡ length writes)
+
+  pub record Told (m : Memory) (h : History) : Type 0 where
+    pub sound : Sound first h
+    pub began : (p : ℕ) → h .began p ≤ h .moves
+    pub newest-one : Newest m (h .writes)
+    pub reader : (r : ℕ) → r < n → Reads m h r
+    pub writer : Writes m h

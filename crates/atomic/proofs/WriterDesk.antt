@@ -1,0 +1,85 @@
+-- The writer's desk stays whole as the writer goes from phase to phase. Assumes nothing.
+use mathlib.Core.Path.{_≡_, refl}
+use mathlib.Core.Logic.{_≢_}
+use Prim.Native.Nat.{ℕ, suc, _+_, _≤_, _<_}
+use native.Mathlib.Omega.{arith}
+use Rattle.register.specs.Area.{most-writes}
+use Rattle.register.specs.Conditions.{WordWhole, WriterWhole}
+
+module _ {n c phase last hand pos len old ended : ℕ} (v : WriterWhole n c phase last hand pos len old ended) where
+  pub further : (k pos′ old′ : ℕ) → phase ≢ 0 → 3 ≤ k → k ≤ 7 → pos′ ≤ len
+      → WordWhole n old′ → WriterWhole n c k last hand pos′ len old′ ended
+  further k pos′ old′ busy lo hi part before =
+      record {
+        phases = hi;
+        last-one = v .last-one;
+        hand-one = v .hand-one;
+        part = part;
+        words = v .words;
+        before = before;
+        copying = λ e. absurd (omega arith);
+        unmoved = λ e. absurd (omega arith);
+        room = λ d. v .room busy;
+      }
+
+  -- it copies
+  pub copying-on : (pos′ : ℕ) → phase ≢ 0 → pos′ < len → WriterWhole n c 2 last hand pos′ len old ended
+  copying-on pos′ busy more =
+      record {
+        phases = omega arith;
+        last-one = v .last-one;
+        hand-one = v .hand-one;
+        part = omega arith;
+        words = v .words;
+        before = v .before;
+        copying = λ e. more;
+        unmoved = λ e. absurd (omega arith);
+        room = λ d. v .room busy;
+      }
+
+  -- it looks on
+  pub scanning-on : (hand′ : ℕ) → phase ≡ 1 → hand′ < n + 2
+      → WriterWhole n c phase last hand′ pos len old ended
+  scanning-on hand′ e l =
+      record {
+        phases = v .phases;
+        last-one = v .last-one;
+        hand-one = l;
+        part = v .part;
+        words = v .words;
+        before = v .before;
+        copying = v .copying;
+        unmoved = v .unmoved;
+        room = v .room;
+      }
+
+  -- it begins
+  pub beginning : (len′ : ℕ) → len′ ≤ c → ended < most-writes
+      → WriterWhole n c 1 last 0 0 len′ old ended
+  beginning len′ l more =
+      record {
+        phases = omega arith;
+        last-one = v .last-one;
+        hand-one = omega arith;
+        part = omega arith;
+        words = l;
+        before = v .before;
+        copying = λ e. absurd (omega arith);
+        unmoved = λ e. refl;
+        room = λ d. more;
+      }
+
+  -- it ends
+  pub ending : WriterWhole n c 0 hand hand pos len old (suc ended)
+  ending =
+      record {
+        phases = omega arith;
+        last-one = v .hand-one;
+        hand-one = v .hand-one;
+        part = v .part;
+        words = v .words;
+        before = v .before;
+        copying = λ e. absurd (omega arith);
+        unmoved = λ e. absurd (omega arith);
+        room = λ d. absurd (d refl);
+      }

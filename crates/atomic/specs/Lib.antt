@@ -1,0 +1,5 @@
+-- What a run has to say, what one line is, and what is promised, in the order in which to read them. Assumes nothing.
+pub mod History
+pub mod Line
+pub mod Demands
+pub mod Complete

@@ -1,0 +1,2 @@
+-- What filling a fresh area does in parts, over the definitions of `register`. Assumes nothing.
+pub mod Making

@@ -1,0 +1,72 @@
+-- Test 1 by what the code asks in turn, and the layout that an area names. Assumes nothing.
+use borrow.Author.Tests.{le-leb, lt-leb}
+use mathlib.Core.Bool.{Bool, true, false, _&&_, not, and-assoc}
+use mathlib.Core.Path.{_≡_, sym, ap, _∙_}
+use mathlib.Core.List.{List}
+use Prim.Native.Nat.{ℕ, _≤_, _<_}
+use lib.Dec.{eqb}
+use lib.ListN.{length, getD}
+use Rattle.register.specs.Table.{total}
+use Rattle.register.specs.Area.{form1, known-form, in-range, readers, capacity, is-area}
+use Rattle.register.specs.Area.{all, memory-tests, undamaged}
+use Rattle.register.proofs.Facts.{area-facts}
+use Rattle.area.specs.declared.Layout.{Layout}
+use Rattle.area.specs.Words.{layout-of, Sized, memory-of}
+use Rattle.area.proofs.Sizes.{laid-of}
+use Rattle.area.proofs.Joined.{five}
+use Rattle.area.proofs.Taken.{not-taken}
+use Rattle.testing.specs.Test.{fit-tests}
+
+-- the tests by the layout, as the code joins them
+pub fit-joined : (p : Layout) (a : List ℕ)
+    → eqb (getD a 3 0) (p .total) && eqb (getD a 4 0) (p .slots) && eqb (getD a 5 0) (p .desks)
+    && eqb (getD a 6 0) (p .writer) && eqb (length a) (p .total)
+    ≡ all (fit-tests p a)
+fit-joined p a =
+    five (eqb (getD a 3 0) (p .total)) (eqb (getD a 4 0) (p .slots)) (eqb (getD a 5 0) (p .desks))
+    (eqb (getD a 6 0) (p .writer)) (eqb (length a) (p .total))
+
+module _ (a : List ℕ) where
+  -- the form is known, and N and C are in range
+  abbrev taken : Bool
+  taken = known-form (getD a 0 0) && in-range (readers a) (capacity a)
+
+  -- the tests that are left behind those two
+  abbrev left : Bool
+  left = all (fit-tests (layout-of (readers a) (capacity a)) a)
+
+  -- fewer than eight words
+  pub too-short : length a < 8 → is-area a ≡ false
+  unfolding is-area
+  too-short h = rw (lt-leb 8 (length a) h)
+
+  -- eight words or more: the other tests
+  enough : 8 ≤ length a → is-area a ≡ taken && left
+  unfolding is-area
+  enough h = rw (le-leb 8 (length a) h) (sym (and-assoc (known-form (getD a 0 0)) (in-range (readers a) (capacity a)) left))
+
+  module _ (h : 8 ≤ length a) where
+    -- the code asks of the form and of N and C, and one of the two fails
+    pub unknown : {k r : Bool} → k ≡ known-form (getD a 0 0) → r ≡ in-range (readers a) (capacity a)
+        → not (k && r) ≡ true → is-area a ≡ false
+    unknown f g n = enough h ∙ ap (λ b. b && left) (not-taken (getD a 0 0) (readers a) (capacity a) f g n)
+
+    -- both tests pass, and those by the layout are left
+    pub by-layout : {p : Layout} → p ≡ layout-of (readers a) (capacity a) → taken ≡ true
+        → all (fit-tests p a) ≡ is-area a
+    by-layout l e = ap (λ q. all (fit-tests q a)) l ∙ sym (enough h ∙ ap (λ b. b && left) e)
+
+  module _ (p : Layout) (e : p ≡ layout-of (readers a) (capacity a)) where
+    -- an area has the words that its layout says
+    pub sized : is-area a ≡ true → Sized p a
+    sized h =
+        let facts = area-facts a h in
+        record {
+          laid = laid-of (facts .range .few-readers) (facts .range .few-words) e;
+          exact = facts .exact ∙ ap (λ q. total (form1 (q .n) (q .c))) (sym e);
+        }
+
+    -- test 2 over the layout is test 2
+    pub undamaged-is : all (memory-tests (p .n) (p .c) (memory-of p a)) ≡ undamaged a
+    unfolding undamaged
+    undamaged-is = ap (λ q. all (memory-tests (q .n) (q .c) (memory-of q a))) e

@@ -1,0 +1,54 @@
+-- Test 2 by what the code asks: of the numbers that it reads in a slot, in a reader's desk and in the writer's desk
+-- (`slot-by`, `desk-by`, `writer-by`), and of these parts in turn. Assumes nothing.
+use mathlib.Core.Bool.{Bool, true, false, _&&_, _||_, not, and-true}
+use mathlib.Core.Path.{_≡_, sym}
+use Prim.Native.Nat.{ℕ, _+_}
+use lib.Dec.{eqb, leb, ltb}
+use Rattle.register.specs.Place.{Memory}
+use Rattle.register.specs.Area.{all, every, memory-tests, current, word-sound, slot-sound, desk-sound, writer-sound}
+use Rattle.register.specs.Area.{r-start, r-end, size, phase, last, pos, len, finished, most-writes}
+use Rattle.register.specs.Area.{writer-phase, last-slot, in-hand, writer-pos, writer-len, old-word, writes-ended}
+use Rattle.area.proofs.Joined.{three, six, nine}
+
+module _ (n c : ℕ) (m : Memory) where
+  -- ---- the parts, by the numbers read
+
+  pub slot-by : (s : ℕ) {x y z : ℕ} → x ≡ m (r-start s) → y ≡ m (r-end s) → z ≡ m (size s)
+      → leb x n && leb y n && leb z c ≡ slot-sound n c m s
+  unfolding slot-sound
+  slot-by s e f g = rw (e, f, g, three)
+
+  pub desk-by : (r : ℕ) {w x y z f : ℕ} → w ≡ m (phase r) → x ≡ m (last r) → y ≡ m (pos r) → z ≡ m (len r)
+      → f ≡ m (finished r)
+      → leb w 5 && ltb x (n + 2) && leb y z && leb z c && leb f 1 && (not (eqb w 5) || ltb y z)
+      ≡ desk-sound n c m r
+  unfolding desk-sound
+  desk-by r a b d e f = rw (a, b, d, e, f, six)
+
+  pub writer-by : {w x y z l e : ℕ} {o : Bool} → w ≡ m writer-phase → x ≡ m last-slot → y ≡ m in-hand
+      → z ≡ m writer-pos → l ≡ m writer-len → o ≡ word-sound n (m old-word) → e ≡ m writes-ended
+      → leb w 7 && ltb x (n + 2) && ltb y (n + 2) && leb z l && leb l c && o && (not (eqb w 2) || ltb z l)
+      && (not (eqb w 1) || eqb z 0) && (eqb w 0 || ltb e most-writes)
+      ≡ writer-sound n c m
+  unfolding writer-sound
+  writer-by a b d e f g h = rw (a, b, d, e, f, g, h, nine)
+
+  -- ---- the parts in turn
+
+  -- the current word fails
+  pub word-fails : word-sound n (m current) ≡ false → false ≡ all (memory-tests n c m)
+  word-fails e = rw e
+
+  module _ (word : word-sound n (m current) ≡ true) where
+    -- the current word passes, and a slot fails
+    pub slots-fail : every (n + 2) 0 (slot-sound n c m) ≡ false → false ≡ all (memory-tests n c m)
+    slots-fail e = rw (word, e)
+
+    module _ (slots : every (n + 2) 0 (slot-sound n c m) ≡ true) where
+      -- the slots pass too, and a desk fails
+      pub desks-fail : every n 0 (desk-sound n c m) ≡ false → false ≡ all (memory-tests n c m)
+      desks-fail e = rw (word, slots, e)
+
+      -- all these pass, and the writer's desk is left
+      pub writer-left : every n 0 (desk-sound n c m) ≡ true → writer-sound n c m ≡ all (memory-tests n c m)
+      writer-left desks = rw (word, slots, desks) (sym (and-true (writer-sound n c m)))
