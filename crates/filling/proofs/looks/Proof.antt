@@ -1,6 +1,7 @@
 -- `looks` meets its contract: each way through it is a plan of step 1. Assumes nothing.
 use borrow.Author.Needs.{needs}
 use mathlib.Core.Logic.{⊎-elim}
+use native.Mathlib.Omega.{arith}
 use Rattle.filling.proofs.Filling.{copy-done, copy-on, picked, none-free, passed-by}
 use Rattle.filling.proofs.looks.Statement.{statement}
 use Rattle.filling.proofs.looks.Tie as tie
@@ -54,7 +55,7 @@ returns-2 c =
     let hand = test .before .before in
     let start = hand .before .before .before in
     none-free (start .args .p) (start .args .area .now) (hand .writer-field .ensures) (test .free .ensures)
-    (taken .if1 .left) (end .if3 .taken) (c .refusal .ensures)
+    (taken .if1 .left) (omega (arith, end .if3 .taken)) (c .refusal .ensures)
 
 add-set-writer-field : tie.Need-add-set-writer-field
 add-set-writer-field c = search needs

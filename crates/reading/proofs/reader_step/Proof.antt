@@ -37,31 +37,31 @@ returns : tie.Need-returns
 returns c = search idle
 
 same-length-2 : tie.Need-same-length-2
-same-length-2 c = search needs
+same-length-2 c = c .before .before .compares .kept .0
 
 returns-2 : tie.Need-returns-2
 returns-2 c = search in-phase
 
 same-length-3 : tie.Need-same-length-3
-same-length-3 c = search needs
+same-length-3 c = c .before .before .unbinds .kept .0
 
 returns-3 : tie.Need-returns-3
 returns-3 c = search in-phase
 
 same-length-4 : tie.Need-same-length-4
-same-length-4 c = search needs
+same-length-4 c = c .before .before .binds .kept .0
 
 returns-4 : tie.Need-returns-4
 returns-4 c = search in-phase
 
 same-length-5 : tie.Need-same-length-5
-same-length-5 c = search needs
+same-length-5 c = c .before .before .takes .kept .0
 
 returns-5 : tie.Need-returns-5
 returns-5 c = search in-phase
 
 same-length-6 : tie.Need-same-length-6
-same-length-6 c = search needs
+same-length-6 c = c .before .before .copies .kept .0
 
 returns-6 : tie.Need-returns-6
 returns-6 c = search in-phase

@@ -1,6 +1,7 @@
 -- `write_begins` meets its contract: each refusal in its order, then the stores of the plan. Assumes nothing.
 use borrow.Author.Needs.{needs}
 use mathlib.Core.Path.{_∙_}
+use native.Mathlib.Omega.{arith}
 use Rattle.answer.proofs.Stored.{still-sized}
 use Rattle.writing.proofs.Beginning.{too-long, still-writing, no-more-writes, begun}
 use Rattle.writing.proofs.write_begins.Statement.{statement}
@@ -55,7 +56,7 @@ returns-3 c =
     let phase = ended .before in
     let start = phase .before .before .before .before in
     no-more-writes (start .args .p) (start .args .area .now) (start .args .words .now) (fits .if1 .left)
-    (phase .writer-field .ensures) (idle .if2 .left) (ended .writer-field2 .ensures) (full .if3 .taken)
+    (phase .writer-field .ensures) (idle .if2 .left) (ended .writer-field2 .ensures) (omega (arith, full .if3 .taken))
     (c .refusal3 .ensures)
 
 copies-in-requires : tie.Need-copies-in-requires

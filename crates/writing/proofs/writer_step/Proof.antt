@@ -1,5 +1,6 @@
 -- `writer_step` meets its contract: each phase has its own step, and none is past 7. Assumes nothing.
 use borrow.Author.Needs.{needs}
+use mathlib.Core.Path.{sym, _∙_}
 use native.Mathlib.Omega.{arith}
 use Rattle.answer.proofs.Stored.{refuses}
 use Rattle.writing.proofs.Phases.{in-phase, no-other-phase}
@@ -13,22 +14,26 @@ refusal-requires : tie.Need-refusal-requires
 refusal-requires c κs = search needs
 
 looks-requires : tie.Need-looks-requires
-looks-requires c κs = search needs
+looks-requires c κs = c .before .before .before .before .before .pre
 
 fills-requires : tie.Need-fills-requires
-fills-requires c κs = search needs
+fills-requires c κs =
+    let way = c .before in
+    let read = way .before in
+    let start = read .before .before .before in
+    (start .pre, sym (read .writer-field .ensures) ∙ way .match .keys3)
 
 sizes-requires : tie.Need-sizes-requires
 sizes-requires c κs = search needs
 
 clears-start-requires : tie.Need-clears-start-requires
-clears-start-requires c κs = search needs
+clears-start-requires c κs = c .before .before .before .before .before .pre
 
 clears-end-requires : tie.Need-clears-end-requires
-clears-end-requires c κs = search needs
+clears-end-requires c κs = c .before .before .before .before .before .pre
 
 publishes-requires : tie.Need-publishes-requires
-publishes-requires c κs = search needs
+publishes-requires c κs = c .before .before .before .before .before .pre
 
 freezes-requires : tie.Need-freezes-requires
 freezes-requires c κs = search needs
@@ -48,7 +53,7 @@ returns c =
     (refuses (start .args .p) (start .args .p .n) (start .args .area .now) (c .refusal .ensures))
 
 same-length-2 : tie.Need-same-length-2
-same-length-2 c = search needs
+same-length-2 c = c .before .before .looks .kept .0
 
 returns-2 : tie.Need-returns-2
 returns-2 c =
@@ -60,7 +65,7 @@ returns-2 c =
     (step .looks .ensures)
 
 same-length-3 : tie.Need-same-length-3
-same-length-3 c = search needs
+same-length-3 c = c .before .before .fills .kept .0
 
 returns-3 : tie.Need-returns-3
 returns-3 c =
@@ -72,7 +77,7 @@ returns-3 c =
     (step .fills .ensures)
 
 same-length-4 : tie.Need-same-length-4
-same-length-4 c = search needs
+same-length-4 c = c .before .before .sizes .kept .0
 
 returns-4 : tie.Need-returns-4
 returns-4 c =
@@ -84,7 +89,7 @@ returns-4 c =
     (step .sizes .ensures)
 
 same-length-5 : tie.Need-same-length-5
-same-length-5 c = search needs
+same-length-5 c = c .before .before .clears-start .kept .0
 
 returns-5 : tie.Need-returns-5
 returns-5 c =
@@ -96,7 +101,7 @@ returns-5 c =
     (step .clears-start .ensures)
 
 same-length-6 : tie.Need-same-length-6
-same-length-6 c = search needs
+same-length-6 c = c .before .before .clears-end .kept .0
 
 returns-6 : tie.Need-returns-6
 returns-6 c =
@@ -108,7 +113,7 @@ returns-6 c =
     (step .clears-end .ensures)
 
 same-length-7 : tie.Need-same-length-7
-same-length-7 c = search needs
+same-length-7 c = c .before .before .publishes .kept .0
 
 returns-7 : tie.Need-returns-7
 returns-7 c =
@@ -120,7 +125,7 @@ returns-7 c =
     (step .publishes .ensures)
 
 same-length-8 : tie.Need-same-length-8
-same-length-8 c = search needs
+same-length-8 c = c .before .before .freezes .kept .0
 
 returns-8 : tie.Need-returns-8
 returns-8 c =
