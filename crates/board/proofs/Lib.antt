@@ -2,4 +2,4 @@
 mod Made
 mod Answering
 mod Shown
-pub mod Unique
+mod Unique

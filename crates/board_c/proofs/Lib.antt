@@ -1,3 +1,3 @@
 -- Laws of the calls for C that their proofs cite, and what the words of an area mean. Assumes nothing.
 mod Told
-pub mod Making
+mod Making

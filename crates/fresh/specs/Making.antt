@@ -10,7 +10,8 @@ use Rattle.register.specs.Area.{form1, slots-at, desks-at, writer-at, header, c
 use Rattle.register.specs.Area.{known-form, in-range}
 use Rattle.register.specs.Steps.{_else_, unless}
 
--- for as many words lent and a record of a length: the first test that fails gives its number, and 0 says that all pass
+-- for as many words lent and a record of a length: the first test that fails gives its number, and 0 says that all
+-- pass
 unfoldable pub making-number : ℕ → ℕ → ℕ → ℕ → ℕ → ℕ
 making-number form n c words length =
     unless (λ k. k)

@@ -1,6 +1,7 @@
 // Runs the small runs of document 01 that are not proved of the definitions, on the calls of `board`, and prints
 // each answer: its number, then "ended" and the age where an operation ended.
 use answer::Answer;
+use area::Layout;
 
 fn tell(x: Answer) {
     io::write_all(1, b" ");
@@ -16,32 +17,59 @@ fn line(words: &[u8]) {
     io::write_all(1, words);
 }
 
+// The calls, each with its answer. A record is one word.
+
+fn make(form: u64, n: u64, c: u64, area: &mut [u64]) {
+    tell(board::making::make(form, n, c, &[7], area));
+}
+
+fn begin_read(area: &mut [u64], reader: u64) {
+    tell(board::reads::begin_read(area, reader));
+}
+
+fn begin_write(area: &mut [u64]) {
+    tell(board::writes::begin_write(area, &[7]));
+}
+
+fn step(area: &mut [u64], process: u64) {
+    tell(board::steps::step(area, process));
+}
+
 // What is shown of reader 0: how many words. The default has two.
-fn tell_shown<'r>(area: &'r [u64], default: &'r [u64]) {
+fn show<'r>(area: &'r [u64], default: &'r [u64]) {
     let shown = board::showing::show(area, 0, default);
     io::write_all(1, b" shows ");
     io::print_decimal(1, shown.len() as u64);
 }
 
-// N and C out of range, and words of another number than T = 38.
+// N and C out of range.
 fn made_out_of_range() {
-    let record = [7u64];
     let mut area = [5u64; 38];
     line(b"N=0, N=65, C=0, C=257:");
-    tell(board::making::make(1, 0, 1, &record, &mut area));
-    tell(board::making::make(1, 65, 1, &record, &mut area));
-    tell(board::making::make(1, 1, 0, &record, &mut area));
-    tell(board::making::make(1, 1, 257, &record, &mut area));
+    make(1, 0, 1, &mut area);
+    make(1, 65, 1, &mut area);
+    make(1, 1, 0, &mut area);
+    make(1, 1, 257, &mut area);
+}
+
+// Forms that are not known.
+fn made_of_another_form() {
+    let mut area = [5u64; 38];
     line(b"form 0, form 2:");
-    tell(board::making::make(0, 1, 1, &record, &mut area));
-    tell(board::making::make(2, 1, 1, &record, &mut area));
-    line(b"T-1, T+1, no words, T:");
+    make(0, 1, 1, &mut area);
+    make(2, 1, 1, &mut area);
+}
+
+// Words of another number than T = 38.
+fn made_of_another_length() {
     let mut short = [5u64; 37];
     let mut long = [5u64; 39];
-    tell(board::making::make(1, 1, 1, &record, &mut short));
-    tell(board::making::make(1, 1, 1, &record, &mut long));
-    tell(board::making::make(1, 1, 1, &record, &mut []));
-    tell(board::making::make(1, 1, 1, &record, &mut area));
+    let mut area = [5u64; 38];
+    line(b"T-1, T+1, no words, T:");
+    make(1, 1, 1, &mut short);
+    make(1, 1, 1, &mut long);
+    make(1, 1, 1, &mut []);
+    make(1, 1, 1, &mut area);
 }
 
 // A starting record of no words is read in two steps.
@@ -49,37 +77,44 @@ fn starts_with_nothing() {
     let mut area = [5u64; 38];
     line(b"a starting record of no words:");
     tell(board::making::make(1, 1, 1, &[], &mut area));
-    tell(board::reads::begin_read(&mut area, 0));
-    tell(board::steps::step(&mut area, 0));
-    tell(board::steps::step(&mut area, 0));
-    tell_shown(&area, &[8, 9]);
+    begin_read(&mut area, 0);
+    step(&mut area, 0);
+    step(&mut area, 0);
+    show(&area, &[8, 9]);
 }
 
-// Process N is the writer, and N + 1 is nobody.
+// Process N is the writer.
+fn the_writer(area: &mut [u64]) {
+    make(1, 1, 1, area);
+    step(area, 1);
+    begin_write(area);
+    step(area, 1);
+}
+
+// Process N + 1 is nobody, and reader N neither.
+fn nobody(area: &mut [u64]) {
+    step(area, 2);
+    step(area, 18446744073709551615);
+    begin_read(area, 1);
+}
+
 fn processes() {
-    let record = [7u64];
     let mut area = [5u64; 38];
     line(b"process N, N+1:");
-    tell(board::making::make(1, 1, 1, &record, &mut area));
-    tell(board::steps::step(&mut area, 1));
-    tell(board::writes::begin_write(&mut area, &record));
-    tell(board::steps::step(&mut area, 1));
-    tell(board::steps::step(&mut area, 2));
-    tell(board::steps::step(&mut area, 18446744073709551615));
-    tell(board::reads::begin_read(&mut area, 1));
+    the_writer(&mut area);
+    nobody(&mut area);
 }
 
 // Words that are no area, and a damaged one.
 fn damaged() {
-    let record = [7u64];
     let mut area = [5u64; 38];
     line(b"no area, a damaged one:");
-    tell(board::steps::step(&mut area, 0));
-    tell(board::making::make(1, 1, 1, &record, &mut area));
+    step(&mut area, 0);
+    make(1, 1, 1, &mut area);
     area[37] = 5;
-    area[7] = 4294967298;
-    tell(board::steps::step(&mut area, 0));
-    tell_shown(&area, &[8, 9]);
+    area[Layout::CURRENT] = 4294967298;
+    step(&mut area, 0);
+    show(&area, &[8, 9]);
 }
 
 // Steps of a process until its operation ends, at most 1,000: how many, and the last answer.
@@ -98,24 +133,30 @@ fn to_the_end(area: &mut [u64], process: u64) {
     io::write_all(1, b" does not end");
 }
 
+// A whole read.
+fn read(area: &mut [u64], reader: u64) {
+    begin_read(area, reader);
+    to_the_end(area, reader);
+}
+
 // The largest area: a read by the last reader and a write, each of 256 words.
 fn largest() {
     let record = [7u64; 256];
     let mut area = [5u64; 34199];
     line(b"N=64, C=256:");
     tell(board::making::make(1, 64, 256, &record, &mut area));
-    tell(board::reads::begin_read(&mut area, 63));
-    to_the_end(&mut area, 63);
+    read(&mut area, 63);
     tell(board::writes::begin_write(&mut area, &record));
     to_the_end(&mut area, 64);
-    tell(board::reads::begin_read(&mut area, 0));
-    to_the_end(&mut area, 0);
-    tell_shown(&area, &[8, 9]);
+    read(&mut area, 0);
+    show(&area, &[8, 9]);
 }
 
 fn main() {
     io::write_all(1, b"small runs");
     made_out_of_range();
+    made_of_another_form();
+    made_of_another_length();
     starts_with_nothing();
     processes();
     damaged();

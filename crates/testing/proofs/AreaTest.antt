@@ -43,7 +43,9 @@ module _ (a : List ℕ) where
   -- eight words or more: the other tests
   enough : 8 ≤ length a → is-area a ≡ taken && left
   unfolding is-area
-  enough h = rw (le-leb 8 (length a) h) (sym (and-assoc (known-form (getD a 0 0)) (in-range (readers a) (capacity a)) left))
+  enough h =
+      rw (le-leb 8 (length a) h)
+      (sym (and-assoc (known-form (getD a 0 0)) (in-range (readers a) (capacity a)) left))
 
   module _ (h : 8 ≤ length a) where
     -- the code asks of the form and of N and C, and one of the two fails

@@ -1,4 +1,4 @@
--- `to_the_end` ends: at most 1,000 sets-phase. Assumes nothing.
+-- `to_the_end` ends: at most 1,000 steps. Assumes nothing.
 use borrow.Author.Needs.{needs}
 use mathlib.Core.Path.{_≡_}
 use Prim.Native.Nat.{_≤_, _-_}

@@ -35,8 +35,8 @@ in-range-requires c κs = search needs
 returns-2 : tie.Need-returns-2
 returns-2 c =
     let b = c .before .before in
-    sym (unknown _ (b .before .before .before .before .if1 .left) (b .known-form .ensures) (c .before .in-range .ensures)
-    (c .if2 .taken))
+    sym (unknown _ (b .before .before .before .before .if1 .left) (b .known-form .ensures)
+    (c .before .in-range .ensures) (c .if2 .taken))
 
 new-requires : tie.Need-new-requires
 new-requires c κs = (known c .few-readers, known c .few-words)
@@ -48,7 +48,8 @@ returns-3 : tie.Need-returns-3
 returns-3 c =
     let b = c .before .before in
     c .fits2 .ensures
-    ∙ by-layout _ (b .before .before .before .before .before .before .if1 .left) (c .before .new .ensures) (known b .known)
+    ∙ by-layout _ (b .before .before .before .before .before .before .if1 .left) (c .before .new .ensures)
+    (known b .known)
 
 pub is-area-spec : {M : Type 1} → statement M
 is-area-spec =

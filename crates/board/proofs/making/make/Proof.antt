@@ -19,8 +19,8 @@ returns c =
 new-requires : tie.Need-new-requires
 new-requires c κs =
     let z = c .before .before .before .before .args in
-    let t = fits (z .form) (z .n) (z .c) (z .«record» .now) (z .area .now) (c .before .tested .ensures) (c .if1 .left) in
-    (t .taken .few-readers, t .taken .few-words)
+    let f = fits (z .form) (z .n) (z .c) (z .«record» .now) (z .area .now) in
+    let t = f (c .before .tested .ensures) (c .if1 .left) .taken in (t .few-readers, t .few-words)
 
 fill-requires : tie.Need-fill-requires
 fill-requires c κs =
