@@ -2,10 +2,10 @@
 pub mod Sums
 mod Balance
 pub mod Moves
-pub mod Counting
-pub mod Held
+mod Counting
+mod Held
 mod WriterDesk
-pub mod Stays
+mod Stays
 mod Placed
 mod Inserting
 mod Lining
@@ -15,8 +15,8 @@ mod Telling
 mod StepCounts
 mod Bounds
 mod Dates
-pub mod Clean
-pub mod Planned
+mod Clean
+mod Planned
 mod Going
 pub mod Called
 pub mod Observed
@@ -28,4 +28,4 @@ pub mod Promise
 pub mod Ending
 mod Moments
 pub mod Complete
-pub mod InputA
+mod InputA

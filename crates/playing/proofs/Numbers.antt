@@ -60,7 +60,8 @@ module _ (b : List ℕ) (s : State) (w : Written) (k : ℕ) where
       ↔ Given (13 if TooMany b s w ∷ cond x (step-rows (s .area) (w .process))
       (cond y (write-rows (s .area) next-values) (read-rows (s .area) (w .process)))) k
   called d true y ex ey =
-      passes (λ t. let e = eqb-true (w .kind) 1 ex in omega (arith, e, t .begins)) (numbers .steps (s .area) (w .process) k)
+      passes (λ t. let e = eqb-true (w .kind) 1 ex in omega (arith, e, t .begins))
+      (numbers .steps (s .area) (w .process) k)
   called d false false ex ey =
       passes (λ t. eqb-false (w .process) (readers b) ey (t .writer)) (numbers .reads (s .area) (w .process) k)
   called d false true ex ey =
@@ -85,7 +86,8 @@ module _ (b : List ℕ) (s : State) (w : Written) (k : ℕ) where
   unfolding played
   move-number = go (malformed-or-not (readers b) w)
     where
-      go : Dec (Malformed (readers b) w) → (answer-of b s (asked (readers b) w) .number ≡ k) ↔ Given (move-rows b s w) k
+      go : Dec (Malformed (readers b) w)
+          → (answer-of b s (asked (readers b) w) .number ≡ k) ↔ Given (move-rows b s w) k
       go (yes m) =
           subst (λ y. (answer-of b s y .number ≡ k) ↔ Given (move-rows b s w) k) (sym (asks-nothing (readers b) w m))
           (holds m)

@@ -73,7 +73,8 @@ range-is n c = (λ e. range-facts n c (true-passes _ e), back)
 
 pub area-is : (a : List ℕ) → (is-area a ≡ true) ↔ AnArea a
 unfolding is-area
-area-is a = (λ e. there (each-passes (area-tests a) (true-passes _ e)), λ v. passed _ (all-pass (area-tests a) (back v)))
+area-is a =
+    (λ e. there (each-passes (area-tests a) (true-passes _ e)), λ v. passed _ (all-pass (area-tests a) (back v)))
   where
     there : Each T (area-tests a) → AnArea a
     there (also x (also f (also r (also t (also s (also d (also w (also l none)))))))) =
@@ -124,7 +125,8 @@ undamaged-is a = (whole-area a, sound-area a (readers a) (capacity a) refl refl)
 -- showing: the area is undamaged, the reader exists, is idle and has finished
 pub own-is : (a : List ℕ) (r : ℕ) → (is-own a r ≡ true) ↔ Finished a r
 unfolding is-own
-own-is a r = (λ e. there (each-passes (own-tests a r) (true-passes _ e)), λ v. passed _ (all-pass (own-tests a r) (back v)))
+own-is a r =
+    (λ e. there (each-passes (own-tests a r) (true-passes _ e)), λ v. passed _ (all-pass (own-tests a r) (back v)))
   where
     there : Each T (own-tests a r) → Finished a r
     there (also x (also u (also l (also z (also f none))))) =

@@ -1,11 +1,11 @@
 -- Laws of the definitions, document 01's numbers, and its small runs computed. Assumes nothing.
 pub mod SmallRuns
-pub mod Shortcuts
-pub mod Begins
+mod Shortcuts
+mod Begins
 pub mod Tests
 pub mod Places
 pub mod Tables
-pub mod Whole
+mod Whole
 pub mod Form1
 pub mod Rows
 pub mod Facts

@@ -25,7 +25,8 @@ use Rattle.register.specs.Calls.{refused, made, carried-out, answered, r
 use Rattle.register.specs.Numbers.{Row, _if_, Given, make-rows, Idle, reader, writer, NoneFree, Overfull, gone}
 use Rattle.register.specs.Numbers.{bound, read-rows, write-rows, step-rows, Numbers}
 use Rattle.register.proofs.Tests.{true-passes, both}
-use Rattle.register.proofs.Tests.{end, next, at-number, if-true, if-equal, if-less, differ-and-same, not-differ-and-same}
+use Rattle.register.proofs.Tests.{end, next, at-number, if-true}
+use Rattle.register.proofs.Tests.{if-equal, if-less, differ-and-same, not-differ-and-same}
 use Rattle.register.proofs.Facts.{its-plan, range-facts}
 use Rattle.register.proofs.Facts.{number-of}
 use Rattle.register.proofs.Rows.{Says, unless-not, unless-below, unless-at-most, unless-equal, row}
@@ -74,7 +75,8 @@ unfolding answered
 tested a x {l} {k} rest = go (is-area a) refl (undamaged a) refl
   where
     go : (b : Bool) → is-area a ≡ b → (u : Bool) → undamaged a ≡ u
-        → (cond b (cond u (carried-out (mover (readers a) x) a (its-plan a x)) (refused 2 a)) (refused 1 a) .number ≡ k)
+        → (cond b (cond u (carried-out (mover (readers a) x) a (its-plan a x)) (refused 2 a)) (refused 1 a) .number
+        ≡ k)
         ↔ Given (1 if (¬ AnArea a) ∷ 2 if (¬ Undamaged a) ∷ l) k
     go false e u f = holds (unless-not (is-area a) (area-is a) .0 e)
     go true e false f =
@@ -163,7 +165,8 @@ module _ (a : List ℕ) (p k : ℕ) where
         (next (λ e. goes-on (λ z. omega arith) (λ z. omega arith) (λ z. omega arith))
         (next (λ e. busy (λ z. omega arith) (row number-of _ _ (refuse 2) (lifts-end e) nothing-more))
         (next (λ e. busy (λ z. omega arith) (row number-of _ _ (refuse 2) (lifts-counter e) nothing-more))
-        (next (λ e. if-equal Meets (m (size (m (last p)))) 0 _ _ (λ x. later e (omega arith)) (λ x. later e (omega arith)))
+        (next (λ e. if-equal Meets (m (size (m (last p)))) 0 _ _ (λ x. later e (omega arith))
+        (λ x. later e (omega arith)))
         (next (λ e. if-equal Meets (suc (m (pos p))) (m (len p)) _ _ (λ x. later e (omega arith))
         (λ x. later e (omega arith))) end))))))
         (λ h. absurd (omega (arith, w .desk p l .phases)))
@@ -192,7 +195,8 @@ module _ (a : List ℕ) (p k : ℕ) where
     looks-at : m writer-phase ≡ 1 → Meets (Steps.looks n m)
     looks-at e =
         if-true Meets (free m) _ _ (λ f. found (λ h. taken-not f (h .taken)))
-        (λ f. if-equal Meets (m in-hand) (suc n) (refuse 8) _ (λ x. writes-on (λ z. omega arith) (holds (none-free f x)))
+        (λ f. if-equal Meets (m in-hand) (suc n) (refuse 8) _
+        (λ x. writes-on (λ z. omega arith) (holds (none-free f x)))
         (λ x. found (λ h. let y = h .at-the-end in x (omega arith))))
       where
         found : ¬ NoneFree a p → (0 ≡ k) ↔ Given (3 if (n < p) ∷ 6 if Idle a p ∷ last-rows) k

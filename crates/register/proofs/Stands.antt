@@ -6,7 +6,8 @@ use native.Mathlib.Omega.{arith}
 use lib.ListN.{getD}
 use Rattle.register.specs.Place.{Place}
 use Rattle.register.specs.Table.{address}
-use Rattle.register.specs.Area.{current, slot-field, contents, desk-field, read-record, writer-field, write-record}
+use Rattle.register.specs.Area.{current, slot-field, contents, desk-field}
+use Rattle.register.specs.Area.{read-record, writer-field, write-record}
 use Rattle.register.specs.Area.{r-start, r-end, size, slot-write-number, phase, last, pos, len}
 use Rattle.register.specs.Area.{desk-write-number, finished, writer-phase, last-slot, in-hand, writer-pos}
 use Rattle.register.specs.Area.{writer-len, old-word, writes-ended, readers, capacity, table, memory}

@@ -8,7 +8,8 @@ use mathlib.Core.List.{List, [], _∷_}
 use Prim.Native.Nat.{ℕ, _+_, _≤_, _<_}
 use lib.ListN.{length}
 use Rattle.register.specs.Place.{Record}
-use Rattle.register.specs.Area.{current, counter, r-start, r-end, phase, last, finished, writer-phase, last-slot}
+use Rattle.register.specs.Area.{current, counter, r-start, r-end, phase}
+use Rattle.register.specs.Area.{last, finished, writer-phase, last-slot}
 use Rattle.register.specs.Area.{in-hand, writes-ended, memory}
 use Rattle.register.specs.Conditions.{InRange, T-of, word, AnArea, Undamaged}
 use Rattle.register.specs.Calls.{made, read-begun, write-begun, stepped, is-own}

@@ -1,5 +1,5 @@
--- What document 01 asks of a run file and of a move in it, as facts in its own numerals; `RunFile` has the same as tests.
--- Assumes nothing.
+-- What document 01 asks of a run file and of a move in it, as facts in its own numerals; `RunFile` has the same as
+-- tests. Assumes nothing.
 use mathlib.Core.Path.{_≡_}
 use mathlib.Core.Logic.{_≢_}
 use mathlib.Core.List.{List}
@@ -8,8 +8,8 @@ use lib.ListN.{length}
 use Rattle.runfile.specs.RunFile.{readers, capacity, starting-length, moves, moves-at, values, values-at}
 use Rattle.runfile.specs.RunFile.{Written}
 
--- a header of 28 bytes; N is 1 to 8, C is 1 to 32; I is at most C and at most V; M is at most 4,000, V at most 1,000; the
--- moves stand at 28, the values at 28 + 4M; the file is exactly 28 + 4M + 8V bytes
+-- a header of 28 bytes; N is 1 to 8, C is 1 to 32; I is at most C and at most V; M is at most 4,000, V at most 1,000;
+-- the moves stand at 28, the values at 28 + 4M; the file is exactly 28 + 4M + 8V bytes
 pub record FileFacts (b : List ℕ) : Type 0 where
   pub whole-header : 28 ≤ length b
   pub some-readers : 1 ≤ readers b

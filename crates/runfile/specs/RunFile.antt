@@ -36,8 +36,8 @@ module _ (b : List ℕ) where
   abbrev pub values-at : ℕ
   values-at = number-at 4 b 24
 
-  -- a whole header; N 1 to 8, C 1 to 32, I at most C; at most 4,000 moves, behind the header; at most 1,000 values, I among them,
-  -- behind the moves; exactly so many bytes
+  -- a whole header; N 1 to 8, C 1 to 32, I at most C; at most 4,000 moves, behind the header; at most 1,000 values, I
+  -- among them, behind the moves; exactly so many bytes
   abbrev pub file-tests : List Bool
   file-tests =
       leb header-bytes (length b)
