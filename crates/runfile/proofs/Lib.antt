@@ -1,4 +1,4 @@
 -- The proofs about run files: laws of the definitions. Assumes nothing.
-pub mod Numbers
+mod Numbers
 pub mod Files
 pub mod Conditions
