@@ -1,6 +1,5 @@
--- Input A of document 01, computed from the definitions: what is printed, the history, the line and the counts. So
--- the promises
--- speak of something. Assumes nothing.
+-- Input A of document 01, computed from the definitions: what is printed, the history, the line and the counts. So the
+-- promises speak of something. Assumes nothing.
 use mathlib.Core.Path.{_≡_, refl}
 use mathlib.Core.Bool.{Bool, true, false, cond, _&&_}
 use mathlib.Core.List.{List, [], _∷_}

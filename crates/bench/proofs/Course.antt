@@ -1,4 +1,10 @@
 -- A run as the code goes through it, move by move: what is left of its text makes what all of it makes.
+--     course-of, asks-nothing, refusal, decoded   parts of a course; what is malformed; what was decoded
+--     moved-on, call-on, malformed-on             one move more: any; one that is a call; one that is malformed
+--     counted-up, lines-step                      no count grows by more than one; one line more
+--     Coursing                                    what holds between two moves
+--     coursing-none, -room, -more, -done          of no move; room to count one more; after one more; after the last
+--     run-put, refused-put, played-put            the whole text, from its parts
 -- Assumes nothing.
 use mathlib.Core.Path.{_≡_, refl, sym, ap, _∙_}
 use mathlib.Core.List.{List, [], _∷_, _++_, append-assoc}
@@ -36,6 +42,10 @@ asks-nothing : (y : CodeAsked) → OneOf (0 ∷ []) (tagOf asked-type.the-type y
 asks-nothing variants.Nothing e = refl
 asks-nothing (variants.Call x) e = absurd (omega arith)
 
+-- what a malformed move comes to
+abbrev refusal : ℕ → Played
+refusal used = record { number = 12; ended = false; age = 0; used = used }
+
 -- what was decoded is what the definition asks for
 decoded : (b : List ℕ) (s : State) (i n : ℕ) (w : CodeWritten) (y : Asked) → n ≡ readers b
     → as-written w ≡ written b i
@@ -53,14 +63,18 @@ course-of p p′ e f g = rw (e, f, g)
 module _ (b : List ℕ) (i : ℕ) (a out a′ out′ : List ℕ) (g r : Progress) (n : ℕ) (w : CodeWritten) (m : CodeAsked)
     (the-n : n ≡ readers b) (the-move : as-written w ≡ written b i)
     (decoding : as-asked m ≡ asked n (as-written w)) where
+  -- the line of what the move came to is put, and the move counted
+  abbrev Put : Played → Type 0
+  Put x =
+      (sheet out′ (r .end) ≡ put (sheet out (g .end)) (answer-line n i (as-written w) (as-outcome x a′ .answer)))
+      × (r .used ≡ x .used)
+      × (as-tally (r .tally) ≡ counted (as-tally (g .tally)) (x .number) (x .age))
+
   -- one move more, where y is what it asks for and x what it came to
-  moved-on : (y : Asked) (x : Played) → y ≡ as-asked m
-      → as-outcome x a′ ≡ outcome b (state a (g .used)) y
-      → sheet out′ (r .end) ≡ put (sheet out (g .end))
-      (answer-line n i (as-written w) (as-outcome x a′ .answer))
-      → r .used ≡ x .used → as-tally (r .tally) ≡ counted (as-tally (g .tally)) (x .number) (x .age)
+  moved-on : (y : Asked) (x : Played) → y ≡ as-asked m → as-outcome x a′ ≡ outcome b (state a (g .used)) y
+      → Put x
       → as-course a′ out′ r ≡ course-after b i (as-course a out g)
-  moved-on y x e-y e-outcome e-text e-used e-tally =
+  moved-on y x e-y e-outcome (e-text, e-used, e-tally) =
       let e-x = e-outcome ∙ decoded b (state a (g .used)) i n w y the-n the-move (e-y ∙ decoding) in
       course-of _ _
       (ap (state a′) e-used ∙ ap (λ o. state (o .answer .area) (o .used)) e-x)
@@ -71,27 +85,16 @@ module _ (b : List ℕ) (i : ℕ) (a out a′ out′ : List ℕ) (g r : Progress
 
   -- a call is played
   pub call-on : (call : Call) (x : Played) → m ≡ variants.Call call
-      → as-outcome x a′ ≡ outcome b (state a (g .used)) (as-call call)
-      → sheet out′ (r .end) ≡ put (sheet out (g .end))
-      (answer-line n i (as-written w) (as-outcome x a′ .answer))
-      → r .used ≡ x .used → as-tally (r .tally) ≡ counted (as-tally (g .tally)) (x .number) (x .age)
+      → as-outcome x a′ ≡ outcome b (state a (g .used)) (as-call call) → Put x
       → as-course a′ out′ r ≡ course-after b i (as-course a out g)
   call-on call x e = moved-on (as-call call) x (ap as-asked (sym e))
 
   -- what is no call is refused by 12, and uses up nothing
-  pub malformed-on : (x : Played) → x ≡ record { number = 12; ended = false; age = 0; used = g .used }
-      → OneOf (0 ∷ []) (tagOf asked-type.the-type m) → a′ ≡ a
-      → sheet out′ (r .end) ≡ put (sheet out (g .end))
-      (answer-line n i (as-written w) (as-outcome x a′ .answer))
-      → r .used ≡ x .used → as-tally (r .tally) ≡ counted (as-tally (g .tally)) (x .number) (x .age)
+  pub malformed-on : OneOf (0 ∷ []) (tagOf asked-type.the-type m) → a ≡ a′ → Put (refusal (g .used))
       → as-course a′ out′ r ≡ course-after b i (as-course a out g)
-  malformed-on x e tag same =
-      moved-on nothing x (asks-nothing m tag)
-      (ap (λ z. as-outcome z a′) e ∙ ap (λ l. as-outcome (refusal (g .used)) l) same
-      ∙ ap (λ u. as-outcome (refusal u) a) (omega arith))
-    where
-      refusal : ℕ → Played
-      refusal u = record { number = 12; ended = false; age = 0; used = u }
+  malformed-on tag same =
+      moved-on nothing (refusal (g .used)) (asks-nothing m tag)
+      (ap (as-outcome (refusal (g .used))) (sym same) ∙ ap (λ u. as-outcome (refusal u) a) (omega arith))
 
 -- no count grows by more than one
 counted-up : (t : Tally) (number age : ℕ)

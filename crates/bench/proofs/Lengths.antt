@@ -1,4 +1,10 @@
--- How long the text is: every file's is shorter than the bytes that are lent for it. Assumes nothing.
+-- How long the text is: every file's is shorter than the bytes that are lent for it.
+--     digits-length, few-digits, decimal-length, four-digits, flag-length   of a number
+--     field-length, fields-length, line-length                              of fields, of a line
+--     read-length, answer-length, lines-length                              of a finished read's fields, of moves' lines
+--     first-length, last-length, run-length, refused-length                 of the other lines, of a run's text
+--     text-length, text-whole                                               of any file's text; it is whole
+-- Assumes nothing.
 use mathlib.Core.Path.{_≡_, ap, _∙_}
 use mathlib.Core.Bool.{Bool, true, false, cond, _&&_}
 use mathlib.Core.List.{List, [], _∷_, _++_, map}

@@ -17,7 +17,7 @@ use Rattle.register.specs.Area.{slots-at, desks-at, writer-at, range-tes
 use Rattle.register.specs.Area.{table, area-tests, is-area, undamaged, memory, all, memory-tests}
 use Rattle.register.specs.Conditions.{InRange, word, AnArea, Undamaged, Whole}
 use Rattle.register.specs.Calls.{own-tests, is-own}
-use Rattle.register.specs.Numbers.{writer, Finished}
+use Rattle.register.specs.Numbers.{writer, OwnToShow}
 use Rattle.register.specs.Lists.{Each, none, also}
 use Rattle.register.proofs.Tests.{passed, true-passes, each-passes, all-pass}
 use Rattle.register.specs.Steps.{Plan, refuse, accept, Move, plan}
@@ -123,24 +123,24 @@ pub undamaged-is : (a : List ℕ) → (undamaged a ≡ true) ↔ Undamaged a
 undamaged-is a = (whole-area a, sound-area a (readers a) (capacity a) refl refl)
 
 -- showing: the area is undamaged, the reader exists, is idle and has finished
-pub own-is : (a : List ℕ) (r : ℕ) → (is-own a r ≡ true) ↔ Finished a r
+pub own-is : (a : List ℕ) (r : ℕ) → (is-own a r ≡ true) ↔ OwnToShow a r
 unfolding is-own
 own-is a r =
     (λ e. there (each-passes (own-tests a r) (true-passes _ e)), λ v. passed _ (all-pass (own-tests a r) (back v)))
   where
-    there : Each T (own-tests a r) → Finished a r
+    there : Each T (own-tests a r) → OwnToShow a r
     there (also x (also u (also l (also z (also f none))))) =
         record {
           area = area-is a .0 (passed _ x);
           undamaged = undamaged-is a .0 (passed _ u);
           exists = ltb→lt _ _ l;
           idle = eqb→eq _ _ z;
-          finishes = eqb→eq _ _ f;
+          has-finished = eqb→eq _ _ f;
         }
 
-    back : Finished a r → Each T (own-tests a r)
+    back : OwnToShow a r → Each T (own-tests a r)
     back v =
         also (true-passes _ (area-is a .1 (v .area)))
         (also (true-passes _ (undamaged-is a .1 (v .undamaged)))
         (also (lt→ltb _ _ (v .exists))
-        (also (true-passes _ (eq-eqb _ _ (v .idle))) (also (true-passes _ (eq-eqb _ _ (v .finishes))) none))))
+        (also (true-passes _ (eq-eqb _ _ (v .idle))) (also (true-passes _ (eq-eqb _ _ (v .has-finished))) none))))

@@ -1,7 +1,7 @@
 -- Laws of the definitions, document 01's numbers, and its small runs computed. Assumes nothing.
 pub mod SmallRuns
 mod Shortcuts
-mod Begins
+mod Touches
 pub mod Tests
 pub mod Places
 pub mod Tables

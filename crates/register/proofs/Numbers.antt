@@ -22,7 +22,7 @@ use Rattle.register.specs.Steps
 use Rattle.register.specs.Steps.{Plan, refuse, accept, reader-step, writer-step, free, Move, read, write, step}
 use Rattle.register.specs.Steps.{mover}
 use Rattle.register.specs.Calls.{refused, made, carried-out, answered, read-begun, write-begun, stepped}
-use Rattle.register.specs.Numbers.{Row, _if_, Given, make-rows, Idle, reader, writer, NoneFree, Overfull, gone}
+use Rattle.register.specs.Numbers.{Row, _if_, Given, make-rows, Idle, reader, writer, LastNotFree, Overfull, gone}
 use Rattle.register.specs.Numbers.{bound, read-rows, write-rows, step-rows, Numbers}
 use Rattle.register.proofs.Tests.{true-passes, both}
 use Rattle.register.proofs.Tests.{end, next, at-number, if-true}
@@ -110,7 +110,7 @@ module _ (a : List ℕ) (p k : ℕ) where
   m = memory a
 
   abbrev last-rows : List Row
-  last-rows = 8 if NoneFree a p ∷ 2 if Overfull a p ∷ []
+  last-rows = 8 if LastNotFree a p ∷ 2 if Overfull a p ∷ []
 
   -- x gives what the rows from 3 on give
   abbrev Meets : Plan → Type 1
@@ -121,7 +121,7 @@ module _ (a : List ℕ) (p k : ℕ) where
     rests (reader h e) = e
     rests (writer h e) = absurd (omega (arith, h))
 
-    no-look : ¬ NoneFree a p
+    no-look : ¬ LastNotFree a p
     no-look h = omega (arith, h .writer)
 
     -- a busy reader
@@ -199,13 +199,13 @@ module _ (a : List ℕ) (p k : ℕ) where
         (λ x. writes-on (λ z. omega arith) (holds (none-free f x)))
         (λ x. found (λ h. let y = h .at-the-end in x (omega arith))))
       where
-        found : ¬ NoneFree a p → (0 ≡ k) ↔ Given (3 if (n < p) ∷ 6 if Idle a p ∷ last-rows) k
+        found : ¬ LastNotFree a p → (0 ≡ k) ↔ Given (3 if (n < p) ∷ 6 if Idle a p ∷ last-rows) k
         found d = writes-on (λ z. omega arith) (passes d (passes no-reader nothing-more))
 
         taken-not : free m ≡ true → ¬ ((m in-hand ≡ m last-slot) ⊎ (m (r-start (m in-hand)) ≢ m (r-end (m in-hand))))
         taken-not f = let (d, s) = differ-and-same _ _ _ _ f in ⊎-elim d (λ g. g s)
 
-        none-free : free m ≡ false → m in-hand ≡ suc n → NoneFree a p
+        none-free : free m ≡ false → m in-hand ≡ suc n → LastNotFree a p
         none-free f x =
             record {
               writer = i;

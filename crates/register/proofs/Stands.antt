@@ -64,7 +64,7 @@ module _ (a : List ℕ) where
       ∷ writer-at 6 (omega arith) i ∷ []
 
 pub words-stand : WordsStand
-words-stand a area =
+words-stand a =
     let n = readers a in
     let c = capacity a in
     record {

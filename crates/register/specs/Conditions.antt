@@ -3,10 +3,10 @@
 use mathlib.Core.Path.{_≡_}
 use mathlib.Core.Logic.{_≢_}
 use mathlib.Core.List.{List}
-use Prim.Native.Nat.{ℕ, _+_, _*_, _≤_, _<_}
+use Prim.Native.Nat.{ℕ, _+_, _*_, _/_, _%_, _≤_, _<_}
 use lib.ListN.{length, getD}
 use Rattle.register.specs.Place.{Memory}
-use Rattle.register.specs.Area.{current, index, counter, r-start, r-end, size}
+use Rattle.register.specs.Area.{current, r-start, r-end, size}
 use Rattle.register.specs.Area.{phase, last, pos, len, finished}
 use Rattle.register.specs.Area.{writer-phase, last-slot, in-hand, writer-pos, writer-len, old-word}
 use Rattle.register.specs.Area.{writes-ended, memory}
@@ -44,8 +44,8 @@ module _ (a : List ℕ) where
 
 -- the current word, or the old word: its index is below N + 2, its counter at most N
 pub record WordWhole (n word : ℕ) : Type 0 where
-  pub slot : index word < n + 2
-  pub count : counter word ≤ n
+  pub slot : word / 4294967296 < n + 2
+  pub count : word % 4294967296 ≤ n
 
 -- r_start and r_end are at most N, size is at most C
 pub record SlotWhole (n c started gone size : ℕ) : Type 0 where

@@ -5,10 +5,10 @@ use mathlib.Core.Path.{_≡_}
 use mathlib.Core.Logic.{_≢_, _⊎_, _↔_}
 use mathlib.Core.Bool.{true}
 use mathlib.Core.List.{List, [], _∷_}
-use Prim.Native.Nat.{ℕ, _+_, _≤_, _<_}
+use Prim.Native.Nat.{ℕ, _+_, _%_, _≤_, _<_}
 use lib.ListN.{length}
 use Rattle.register.specs.Place.{Record}
-use Rattle.register.specs.Area.{current, counter, r-start, r-end, phase}
+use Rattle.register.specs.Area.{current, r-start, r-end, phase}
 use Rattle.register.specs.Area.{last, finished, writer-phase, last-slot}
 use Rattle.register.specs.Area.{in-hand, writes-ended, memory}
 use Rattle.register.specs.Conditions.{InRange, T-of, word, AnArea, Undamaged}
@@ -76,7 +76,7 @@ module _ (a : List ℕ) where
     writer : {p : ℕ} → p ≡ n → memory a writer-phase ≡ 0 → Idle p
 
   -- the writer looks at slot N + 1, and it isn't free: it is last slot, or its r_start differs from its r_end
-  pub record NoneFree (p : ℕ) : Type 0 where
+  pub record LastNotFree (p : ℕ) : Type 0 where
     pub writer : p ≡ n
     pub looks : memory a writer-phase ≡ 1
     pub at-the-end : memory a in-hand ≡ n + 1
@@ -86,7 +86,7 @@ module _ (a : List ℕ) where
   -- the step would lift r_end (reader step 2) or the counter of current (reader step 3) above N
   pub data Overfull : ℕ → Type 0 where
     gone : {r : ℕ} → r < n → memory a (phase r) ≡ 2 → n < memory a (r-end (memory a (last r))) + 1 → Overfull r
-    bound : {r : ℕ} → r < n → memory a (phase r) ≡ 3 → n < counter (memory a current) + 1 → Overfull r
+    bound : {r : ℕ} → r < n → memory a (phase r) ≡ 3 → n < memory a current % 4294967296 + 1 → Overfull r
 
   abbrev pub step-rows : ℕ → List Row
   step-rows p =
@@ -94,19 +94,19 @@ module _ (a : List ℕ) where
       ∷ 2 if (¬ Undamaged a)
       ∷ 3 if (n < p)
       ∷ 6 if Idle p
-      ∷ 8 if NoneFree p
+      ∷ 8 if LastNotFree p
       ∷ 2 if Overfull p
       ∷ []
 
   -- ---- showing: whether it is the reader's. No number
 
   -- the area is undamaged, the reader exists, is idle and has finished
-  pub record Finished (r : ℕ) : Type 0 where
+  pub record OwnToShow (r : ℕ) : Type 0 where
     pub area : AnArea a
     pub undamaged : Undamaged a
     pub exists : r < n
     pub idle : memory a (phase r) ≡ 0
-    pub finishes : memory a (finished r) ≡ 1
+    pub has-finished : memory a (finished r) ≡ 1
 
 -- ---- the promise
 
@@ -116,4 +116,4 @@ pub record Numbers : Type 1 where
   pub reads : (a : List ℕ) (r k : ℕ) → (read-begun a r .number ≡ k) ↔ Given (read-rows a r) k
   pub writes : (a : List ℕ) (v : Record) (k : ℕ) → (write-begun a v .number ≡ k) ↔ Given (write-rows a v) k
   pub steps : (a : List ℕ) (p k : ℕ) → (stepped a p .number ≡ k) ↔ Given (step-rows a p) k
-  pub shows : (a : List ℕ) (r : ℕ) → (is-own a r ≡ true) ↔ Finished a r
+  pub shows : (a : List ℕ) (r : ℕ) → (is-own a r ≡ true) ↔ OwnToShow a r

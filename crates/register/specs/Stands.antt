@@ -7,7 +7,7 @@ use Rattle.register.specs.Area.{current, r-start, r-end, size, slot-writ
 use Rattle.register.specs.Area.{phase, last, pos, len, desk-write-number, finished, read-record}
 use Rattle.register.specs.Area.{writer-phase, last-slot, in-hand, writer-pos, writer-len, old-word}
 use Rattle.register.specs.Area.{writes-ended, write-record, memory}
-use Rattle.register.specs.Conditions.{word, AnArea}
+use Rattle.register.specs.Conditions.{word}
 
 module _ (a : List ℕ) where
   abbrev n : ℕ
@@ -41,6 +41,6 @@ module _ (a : List ℕ) where
         ≡ writer 0 ∷ writer 1 ∷ writer 2 ∷ writer 3 ∷ writer 4 ∷ writer 5 ∷ writer 6 ∷ []
     pub writer-record : (i : ℕ) → i < c → memory a (write-record i) ≡ writer (7 + i)
 
--- of any words that are an area
+-- of any words, by their words 1 and 2
 abbrev pub WordsStand : Type 0
-WordsStand = (a : List ℕ) → AnArea a → Stands a
+WordsStand = (a : List ℕ) → Stands a

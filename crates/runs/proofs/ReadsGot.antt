@@ -1,4 +1,11 @@
--- The reads that a run's history has are those that the bench prints. Assumes nothing.
+-- The reads that a run's history has are those that the bench prints.
+--     got-of, gots, gets-of                         what a deed, events, reads say that was got
+--     map-joined, noted-got, told-gots              the history of events has the reads that they end
+--     events-joined, same-readers                   one list of calls behind another; an accepted call keeps N
+--     EndsNothing, not-ended, answer-, read-, write-not-ended   no begin ends anything
+--     no-read, quiet, writer-quiet                  what ends no read
+--     step-got, step-gots, Same, write-same, read-same, move-gots   one move, by what it asks for
+-- Assumes nothing.
 use mathlib.Core.Path.{_≡_, refl, sym, ap, _∙_}
 use mathlib.Core.Bool.{Bool, true, false, cond, _&&_}
 use mathlib.Core.List.{List, [], _∷_, _++_, map, reverse, reverse-cons, append-assoc, append-nil}

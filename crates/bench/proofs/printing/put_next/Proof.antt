@@ -2,7 +2,6 @@
 -- counted. Assumes nothing.
 use borrow.Author.Needs.{needs}
 use mathlib.Core.Path.{refl}
-use mathlib.Core.Bool.{false}
 use Rattle.bench.proofs.Course.{malformed-on, call-on}
 use Rattle.bench.proofs.printing.put_next.Statement.{statement}
 use Rattle.bench.proofs.printing.put_next.Tie as tie
@@ -42,8 +41,7 @@ returns c =
     malformed-on (a .file .now) (a .i) (a .area .now) (a .out .now) _ _ (a .g)
     (record { end = line-put .put-move .result; used = a .g .used; tally = c .brought-up .result })
     (a .n) (write .result) (decoding .asked .result) (start .pre .0) (write .ensures)
-    (decoding .asked .ensures) (record { number = 12; ended = false; age = 0; used = a .g .used }) refl
-    (match .match .keys2) refl (line-put .put-move .ensures) refl (c .brought-up .ensures)
+    (decoding .asked .ensures) (match .match .keys2) refl (line-put .put-move .ensures, refl, c .brought-up .ensures)
 
 play-call-requires : tie.Need-play-call-requires
 play-call-requires c κs = search needs
@@ -74,7 +72,7 @@ returns-2 c =
     (record { end = line-put .put-move2 .result; used = move .result .used; tally = c .brought-up2 .result })
     (a .n) (write .result) (decoding .asked .result) (start .pre .0) (write .ensures)
     (decoding .asked .ensures) (call .given .0 .0) (move .result) (call .given .1)
-    (move .ensures) (line-put .put-move2 .ensures) refl (c .brought-up2 .ensures)
+    (move .ensures) (line-put .put-move2 .ensures, refl, c .brought-up2 .ensures)
 
 pub put-next-spec : {M : Type 1} → statement M
 put-next-spec =

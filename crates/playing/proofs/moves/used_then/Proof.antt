@@ -9,10 +9,10 @@ add-result : tie.Need-add-result
 add-result c = search needs
 
 returns : tie.Need-returns
-returns c = simp (eq-eqb _ _ (c .if1 .taken))
+returns c = rw (eq-eqb (c .before .args .number) 0 (c .if1 .taken))
 
 returns-2 : tie.Need-returns-2
-returns-2 c = simp (ne-eqb _ _ (c .if1 .left)) (omega arith)
+returns-2 c = rw (ne-eqb (c .before .args .number) 0 (c .if1 .left)) (omega arith)
 
 pub used-then-spec : {M : Type 1} → statement M
 used-then-spec = tie.close (tie.spec add-result returns returns-2)
