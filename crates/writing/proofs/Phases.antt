@@ -17,7 +17,7 @@ use Rattle.area.specs.declared.Layout.{Layout}
 use Rattle.answer.specs.Carried.{carried}
 
 -- one plan for each phase, as `writer-step` has them
-abbrev pub writer-plans : ℕ → Memory → List Plan
+abbrev writer-plans : ℕ → Memory → List Plan
 writer-plans n m =
     refuse 6
     ∷ looks n m
