@@ -24,6 +24,7 @@ use Rattle.atomic.specs.Complete.{Moment, trail, moves-of, steps, ends-r
 use Rattle.atomic.specs.Complete.{begun-at, since, handed, told-of, read-told, publication-told}
 use Rattle.atomic.specs.Complete.{End, end-told, publication-of, end-of, ended-only, LeavesNothingOut}
 use Rattle.register.proofs.Tests.{each-follows}
+use Rattle.atomic.proofs.Placed.{between}
 use Rattle.atomic.proofs.Dates.{Ends, all-ended, one-open}
 use Rattle.register.specs.Conditions.{InRange}
 use Rattle.atomic.proofs.Called.{opened}
@@ -195,6 +196,7 @@ leaves-nothing-out u =
       published = whole .published-ones;
       ended = whole .ended-ones;
       latest = latest (run-ends-good u .dated .ends);
+      between = between (run-ends-good u .told .sound .writes);
       now-began = whole .began;
       now-steps = whole .steps-made;
       now-looks = whole .looks-made;

@@ -20,6 +20,7 @@ use native.Mathlib.Omega.{arith}
 use lib.Dec.{eqb}
 use lib.ListN.{length}
 use borrow.Author.Tests.{eq-eqb, ne-eqb}
+use Rattle.register.specs.Lists.{Each, none, also}
 use Rattle.register.specs.Place.{Record}
 use Rattle.atomic.specs.History.{Deed, read-began, write-began, went-on, looked, published}
 use Rattle.atomic.specs.History.{read-ended, write-ended, Read, Write, History}
@@ -50,6 +51,11 @@ pub data Apart : ℕ → List Write → Type 0 where
   one-write : {t : ℕ} {w : Write} {writes : List Write} → w .begin ≤ w .publication
       → w .publication ≤ w .end → w .publication ≤ t → Apart (w .publication) writes
       → Apart t (w ∷ writes)
+
+pub between : {t : ℕ} {l : List Write} → Apart t l
+    → Each (λ w. (w .begin ≤ w .publication) × (w .publication ≤ w .end)) l
+between no-writes = none
+between (one-write h i j rest) = also (h, i) (between rest)
 
 -- reads: each is placed; all ended by t, in the order of the list
 pub data AllPlaced (first : Record) (writes : List Write) : ℕ → List Read → Type 0 where

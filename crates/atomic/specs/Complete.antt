@@ -7,10 +7,10 @@ use Prim.Native.Nat.{ℕ, suc, _≤_}
 use lib.Dec.{eqb, ltb}
 use lib.ListN.{length}
 use Rattle.register.specs.Place.{Record}
-use Rattle.register.specs.Area.{readers, memory, writer-phase}
+use Rattle.register.specs.Area.{readers, memory, desk-write-number, writer-phase}
 use Rattle.register.specs.Steps.{Move, read, write, step, mover}
-use Rattle.register.specs.Calls.{answered, stepped}
-use Rattle.atomic.specs.History.{got, Read, Write}
+use Rattle.register.specs.Calls.{answered, stepped, is-own, shown}
+use Rattle.atomic.specs.History.{Read, Write}
 use Rattle.register.specs.Lists.{Each}
 use Rattle.atomic.specs.Demands.{Run, beginning, told}
 
@@ -101,7 +101,12 @@ read-told a x past =
       begin = begun-at p past;
       end = length past;
       steps = suc (since p (steps p) past);
-      gets = got p (answered a x);
+      gets = record {
+        age = answered a x .age;
+        number = memory (answered a x .area) (desk-write-number p);
+        own = is-own (answered a x .area) p;
+        shows = shown (answered a x .area) p [];
+      };
     }
 
 -- a publication: the begin of its write, its own move, the looks, the record that was handed to the begin
@@ -152,8 +157,9 @@ pub record Complete (u : Run) : Type 0 where
   pub published : map publication-of (told u .writes) ≡ told-of (leaves-phase 6) publication-told (moves-of u)
   -- the ended writes are the writer's steps that answered "ended"
   pub ended : map end-of (ended-only (length (u .moves)) (told u .writes)) ≡ told-of ends-write end-told (moves-of u)
-  -- of a write that has not ended, `end` is the number of all moves
+  -- of a write that has not ended, `end` is the number of all moves; a publication stands from begin to end
   pub latest : Each (λ w. w .end ≤ length (u .moves)) (told u .writes)
+  pub between : Each (λ w. (w .begin ≤ w .publication) × (w .publication ≤ w .end)) (told u .writes)
   -- of operations under way: their begins, their own steps, the looks and the record of the write
   pub now-began : (p : ℕ) → told u .began p ≡ begun-at p (moves-of u)
   pub now-steps : (p : ℕ) → told u .steps p ≡ since p (steps p) (moves-of u)

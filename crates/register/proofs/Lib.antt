@@ -11,3 +11,4 @@ pub mod Rows
 pub mod Facts
 pub mod Numbers
 pub mod Stands
+pub mod Answers

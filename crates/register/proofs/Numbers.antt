@@ -22,7 +22,8 @@ use Rattle.register.specs.Steps
 use Rattle.register.specs.Steps.{Plan, refuse, accept, reader-step, writer-step, free, Move, read, write, step}
 use Rattle.register.specs.Steps.{mover}
 use Rattle.register.specs.Calls.{refused, made, carried-out, answered, read-begun, write-begun, stepped}
-use Rattle.register.specs.Numbers.{Row, _if_, Given, make-rows, Idle, reader, writer, LastNotFree, Overfull, gone}
+use Rattle.register.specs.Numbers.{Row, _if_, Given, make-rows, Idle}
+use Rattle.register.specs.Numbers.{reader, writer, LastNotFree, Overfull, gone}
 use Rattle.register.specs.Numbers.{bound, read-rows, write-rows, step-rows, Numbers}
 use Rattle.register.proofs.Tests.{true-passes, both}
 use Rattle.register.proofs.Tests.{end, next, at-number, if-true}

@@ -8,3 +8,4 @@ pub mod Steps
 pub mod Calls
 pub mod Numbers
 pub mod Stands
+pub mod Answers

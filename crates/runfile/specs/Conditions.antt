@@ -5,24 +5,24 @@ use mathlib.Core.Logic.{_≢_}
 use mathlib.Core.List.{List}
 use Prim.Native.Nat.{ℕ, _+_, _*_, _≤_}
 use lib.ListN.{length}
-use Rattle.runfile.specs.RunFile.{readers, capacity, starting-length, moves, moves-at, values, values-at}
+use Rattle.runfile.specs.Bytes.{number-at}
 use Rattle.runfile.specs.RunFile.{Written}
 
 -- a header of 28 bytes; N is 1 to 8, C is 1 to 32; I is at most C and at most V; M is at most 4,000, V at most 1,000;
 -- the moves stand at 28, the values at 28 + 4M; the file is exactly 28 + 4M + 8V bytes
 pub record FileFacts (b : List ℕ) : Type 0 where
   pub whole-header : 28 ≤ length b
-  pub some-readers : 1 ≤ readers b
-  pub few-readers : readers b ≤ 8
-  pub some-words : 1 ≤ capacity b
-  pub few-words : capacity b ≤ 32
-  pub short : starting-length b ≤ capacity b
-  pub few-moves : moves b ≤ 4000
-  pub moves-place : moves-at b ≡ 28
-  pub few-values : values b ≤ 1000
-  pub recorded : starting-length b ≤ values b
-  pub values-place : values-at b ≡ 28 + 4 * moves b
-  pub exact : length b ≡ 28 + 4 * moves b + 8 * values b
+  pub some-readers : 1 ≤ number-at 4 b 0
+  pub few-readers : number-at 4 b 0 ≤ 8
+  pub some-words : 1 ≤ number-at 4 b 4
+  pub few-words : number-at 4 b 4 ≤ 32
+  pub short : number-at 4 b 8 ≤ number-at 4 b 4
+  pub few-moves : number-at 4 b 12 ≤ 4000
+  pub moves-place : number-at 4 b 16 ≡ 28
+  pub few-values : number-at 4 b 20 ≤ 1000
+  pub recorded : number-at 4 b 8 ≤ number-at 4 b 20
+  pub values-place : number-at 4 b 24 ≡ 28 + 4 * number-at 4 b 12
+  pub exact : length b ≡ 28 + 4 * number-at 4 b 12 + 8 * number-at 4 b 20
 
 -- another kind than begin (0) and step (1), or a length where none may be: with a step, or with a begin of another
 -- process than N
