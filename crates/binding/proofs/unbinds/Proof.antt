@@ -11,7 +11,9 @@ desk-field-requires : tie.Need-desk-field-requires
 desk-field-requires c κs = search needs
 
 slot-field-requires : tie.Need-slot-field-requires
-slot-field-requires c κs = search (needs, bound-slot)
+slot-field-requires c κs =
+    let start = c .before .before .before in
+    (start .pre .0 .sized, bound-slot (start .pre .0) (start .pre .1) (c .desk-field .ensures), search needs)
 
 refusal-requires : tie.Need-refusal-requires
 refusal-requires c κs = search needs
@@ -33,7 +35,10 @@ add-set-slot-field : tie.Need-add-set-slot-field
 add-set-slot-field c = search needs
 
 set-slot-field-requires : tie.Need-set-slot-field-requires
-set-slot-field-requires c κs = search (needs, bound-slot)
+set-slot-field-requires c κs =
+    let slot = c .before .before .before in
+    let start = slot .before .before .before in
+    (start .pre .0 .sized, bound-slot (start .pre .0) (start .pre .1) (slot .desk-field .ensures), search needs)
 
 set-desk-field-requires : tie.Need-set-desk-field-requires
 set-desk-field-requires c κs =

@@ -41,10 +41,15 @@ desk-field-requires : tie.Need-desk-field-requires
 desk-field-requires c κs = search needs
 
 slot-field-requires : tie.Need-slot-field-requires
-slot-field-requires c κs = search (needs, bound-slot)
+slot-field-requires c κs =
+    let start = c .before .before .before in
+    (start .pre .0 .sized, bound-slot (start .pre .0) (start .pre .1) (c .desk-field .ensures), search needs)
 
 slot-field-requires-2 : tie.Need-slot-field-requires-2
-slot-field-requires-2 c κs = search (needs, bound-slot)
+slot-field-requires-2 c κs =
+    let slot = c .before in
+    let start = slot .before .before .before in
+    (start .pre .0 .sized, bound-slot (start .pre .0) (start .pre .1) (slot .desk-field .ensures), search needs)
 
 set-desk-field-requires : tie.Need-set-desk-field-requires
 set-desk-field-requires c κs = search needs
