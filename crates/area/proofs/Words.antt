@@ -1,7 +1,7 @@
 -- The words of an area as its places. The word read at i, where `Layout` says that it stands, is what the memory
--- holds: `slot-field-is`, `contents-is`, `desk-field-is`, `writer-field-is`, `write-record-is`. The word set there is a
--- store: `slot-field-set`, `contents-set`, `desk-field-set`, `read-record-set`, `writer-field-set`, `write-record-set`.
--- Assumes nothing.
+-- holds: `slot-field-is`, `contents-is`, `desk-field-is`, `writer-field-is`, `write-record-is`. The word set there is
+-- a store: `slot-field-set`, `contents-set`, `desk-field-set`, `read-record-set`, `writer-field-set`,
+-- `write-record-set`. Assumes nothing.
 use mathlib.Core.Path.{_≡_, sym, ap, _∙_}
 use mathlib.Core.List.{List, [], _∷_}
 use Prim.Native.Nat.{ℕ, _+_, _<_}

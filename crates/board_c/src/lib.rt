@@ -1,6 +1,6 @@
 // The calls of the board for C and Rust. Each takes any words, any process and any record, and asks nothing of its
 // caller but memory that is its own. Each is equal to a definition: making, the begins and a step to those of
-// `register`, as the calls of `board` are, `board_show` to one of `place` and `board_words` to one of this crate.
+// `register`, as the calls of `board` are, `board_show` to one of `place`, and `board_words` to one of this crate.
 use answer::Answer;
 use area::Layout;
 use area::header;

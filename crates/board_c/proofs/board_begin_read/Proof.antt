@@ -15,7 +15,7 @@ same-length : tie.Need-same-length
 same-length c = search needs
 
 returns : tie.Need-returns
-returns c = search (needs, told)
+returns c = told (c .before .before .before .begin-read .ensures) (c .as-answer .ensures)
 
 pub board-begin-read-spec : {M : Type 1} → statement M
 board-begin-read-spec = tie.close (tie.spec begin-read-requires as-answer-requires same-length returns)

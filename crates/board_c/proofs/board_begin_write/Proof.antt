@@ -15,7 +15,7 @@ same-length : tie.Need-same-length
 same-length c = search needs
 
 returns : tie.Need-returns
-returns c = search (needs, told)
+returns c = told (c .before .before .before .begin-write .ensures) (c .as-answer .ensures)
 
 pub board-begin-write-spec : {M : Type 1} → statement M
 board-begin-write-spec = tie.close (tie.spec begin-write-requires as-answer-requires same-length returns)

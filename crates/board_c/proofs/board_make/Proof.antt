@@ -15,7 +15,7 @@ same-length : tie.Need-same-length
 same-length c = search needs
 
 returns : tie.Need-returns
-returns c = search (needs, told)
+returns c = told (c .before .before .before .make .ensures) (c .as-answer .ensures)
 
 pub board-make-spec : {M : Type 1} → statement M
 board-make-spec = tie.close (tie.spec make-requires as-answer-requires same-length returns)
