@@ -9,11 +9,11 @@ use native.Mathlib.Omega.{arith}
 use lib.ListN.{length, take, drop}
 use Rattle.register.specs.Place.{Record}
 use Rattle.register.specs.Calls.{shown}
-use Rattle.place.specs.declared.Place.{Place}
+use Rattle.place.specs.declared.RecordPlace.{RecordPlace}
 use Rattle.place.specs.Places.{place-of}
 use Rattle.place.proofs.Placed.{places-are-shown}
 
-module _ (a : List ℕ) (r : ℕ) {x : Place} (e : x ≡ place-of a r) where
+module _ (a : List ℕ) (r : ℕ) {x : RecordPlace} (e : x ≡ place-of a r) where
   -- yes is 0
   pub shown-default : (d : Record) → x .yes ≡ 0 → d ≡ shown a r d
   shown-default d z = sym (places-are-shown a r .default (sym (ap (λ p. p .yes) e) ∙ z) d)

@@ -8,7 +8,7 @@ use board::making;
 use board::reads;
 use board::steps;
 use board::writes;
-use place::Place;
+use place::RecordPlace;
 ghost use mathlib.Core.Path.{_≡_};
 ghost use Rattle.register.specs.Calls.{made, read-begun, write-begun, stepped};
 ghost use Rattle.place.specs.Places.{place-of};
@@ -77,7 +77,7 @@ pub extern "C" fn board_step(area: &mut [u64], process: u64) -> BoardAnswer
 
 // Where the reader's record stands in the area, if there is one to show.
 #[no_mangle]
-pub extern "C" fn board_show(area: &[u64], reader: u64) -> Place
+pub extern "C" fn board_show(area: &[u64], reader: u64) -> RecordPlace
     ensures { λ x. ⌜ x ≡ place-of (now (area .entry)) reader ⌝ }
 {
     place::place_of(area, reader)

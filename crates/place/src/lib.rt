@@ -9,17 +9,17 @@ ghost use Rattle.place.specs.Places.{rest-tests, nowhere, place-of};
 
 // Where a reader's record stands: yes is 1, and it is the len words of the area from at on; or all three are 0.
 #[repr(C)]
-pub struct Place {
+pub struct RecordPlace {
     pub yes: u64,
     pub at: u64,
     pub len: u64,
 }
 
 // There is no record to show.
-fn nowhere() -> Place
+fn nowhere() -> RecordPlace
     ensures { λ x. ⌜ x ≡ nowhere ⌝ }
 {
-    Place {
+    RecordPlace {
         yes: 0,
         at: 0,
         len: 0,
@@ -41,7 +41,7 @@ fn rests(area: &[u64], p: Layout, reader: u64) -> bool
 }
 
 // The place of a reader's record, if there is one to show.
-pub fn place_of(area: &[u64], reader: u64) -> Place
+pub fn place_of(area: &[u64], reader: u64) -> RecordPlace
     ensures { λ x. ⌜ x ≡ place-of (now (area .entry)) reader ⌝ }
 {
     if testing::tested(area) != 0 {
@@ -54,7 +54,7 @@ pub fn place_of(area: &[u64], reader: u64) -> Place
     let r = reader as usize;
     let at = p.desk_word(r, Layout::DESK);
     let len = fields::desk_field(area, p, r, Layout::LEN);
-    Place {
+    RecordPlace {
         yes: 1,
         at: at as u64,
         len,
