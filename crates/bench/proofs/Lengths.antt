@@ -1,7 +1,7 @@
 -- How long the text is: every file's is shorter than the bytes that are lent for it.
 --     digits-length, few-digits, decimal-length, four-digits, flag-length   of a number
 --     field-length, fields-length, line-length                              of fields, of a line
---     read-length, answer-length, lines-length                              of a finished read's fields, of moves' lines
+--     read-length, answer-length, lines-length                              of a read's fields, of moves' lines
 --     first-length, last-length, run-length, refused-length                 of the other lines, of a run's text
 --     text-length, text-whole                                               of any file's text; it is whole
 -- Assumes nothing.

@@ -1,7 +1,7 @@
 -- A run file's run is the run of its accepted calls: the area, the answers and the tally, so the demands speak of it.
 --     refused-stays, Called, one-call, no-call, by-number, one   one move: one accepted call, or none
 --     joined, after-, answers-, accepted-joined, behind          one list of calls behind another
---     whole, whole-got, nothing-paid                             a whole run, what its reads got, nothing paid at first
+--     whole, whole-got, nothing-paid                             a whole run, and what its reads got
 --     plays-a-run                                                the promise
 --     few-words-read                                             its reads cost no more than its moves
 -- Assumes nothing.
