@@ -112,8 +112,8 @@ module _ (n c : ℕ) (m : Memory) where
           → Does n c m (by r (went-on (m (phase r)))) m′
       on k e x = renamed (ap went-on (sym e)) x
 
-      looks : m (phase r) ≡ 1 → R (accept (compares m r) false)
-      looks e =
+      comparing : m (phase r) ≡ 1 → R (accept (compares m r) false)
+      comparing e =
           if-equal (λ k. R (accept (sets-phase r k) false)) (index (m current)) (m (last r)) 4 2
           (λ x. (on 1 e (Moves.finds-same r l e x), also (desk 0 tt) none))
           (λ x. (on 1 e (Moves.finds-other r l e x), also (desk 0 tt) none))
@@ -138,10 +138,10 @@ module _ (n c : ℕ) (m : Memory) where
           ))
           (λ x y. omega arith)
 
-      sizes : m (phase r) ≡ 4
+      taking : m (phase r) ≡ 4
           → R (cond (eqb (m (size (m (last r)))) 0) (accept (Steps.takes m r ++ Steps.finishes r) true)
           (accept (Steps.takes m r ++ sets-phase r 5) false))
-      sizes e =
+      taking e =
           if-equal R (m (size (m (last r)))) 0 (accept (Steps.takes m r ++ Steps.finishes r) true)
           (accept (Steps.takes m r ++ sets-phase r 5) false)
           (λ x. (
@@ -167,7 +167,7 @@ module _ (n c : ℕ) (m : Memory) where
       unfolding reader-step
       reader-planned =
           at-number R (m (phase r)) 0 (m (phase r)) _ (refuse 2) (omega arith)
-          (next (λ e y. omega arith) (next looks (next unbinds (next binds (next sizes (next copies end))))))
+          (next (λ e y. omega arith) (next comparing (next unbinds (next binds (next taking (next copies end))))))
           (λ h y. omega arith)
 
     -- ---- the writer
@@ -186,10 +186,10 @@ module _ (n c : ℕ) (m : Memory) where
         → Does n c m (by n (seen-writer k ends)) m′ → Does n c m (by n (seen-writer (m writer-phase) ends)) m′
     out-of ends k e x = renamed (ap (λ j. seen-writer j ends) (sym e)) x
 
-    scans : m writer-phase ≡ 1
+    looking : m writer-phase ≡ 1
         → W (cond (free m) (accept (Steps.picks m) false)
         (cond (eqb (m in-hand) (suc n)) (refuse 8) (accept (Steps.passes m) false)))
-    scans e =
+    looking e =
         if-true W (free m) (accept (Steps.picks m) false)
         (cond (eqb (m in-hand) (suc n)) (refuse 8) (accept (Steps.passes m) false))
         (λ f.
@@ -221,7 +221,7 @@ module _ (n c : ℕ) (m : Memory) where
     writer-planned =
         at-number W (m writer-phase) 0 (m writer-phase) _ (refuse 2) (omega arith)
         (next (λ e y. omega arith)
-        (next scans
+        (next looking
         (next fills
         (next
         (λ e. (
