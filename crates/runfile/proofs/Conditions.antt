@@ -3,7 +3,7 @@
 --     asks-nothing      a malformed move asks for nothing
 --     asks-for          a move that is not malformed asks for what its kind and its process say
 -- Assumes nothing.
-use mathlib.Core.Path.{_≡_}
+use mathlib.Core.Path.{_≡_, ap}
 use mathlib.Core.Logic.{_↔_}
 use mathlib.Core.Bool.{true, cond}
 use mathlib.Core.List.{List}
@@ -42,7 +42,8 @@ file-is b = (file-facts b, λ f. passed _ (all-pass (file-tests b) (back f)))
 module _ (n : ℕ) (w : Written) where
   pub asks-nothing : Malformed n w → asked n w ≡ nothing
   asks-nothing (another-kind d e) = rw (ne-eqb (w .kind) 0 d, ne-eqb (w .kind) 1 e)
-  asks-nothing (length-of-step e d) = rw (e, ne-eqb (w .len) 0 d)
+  asks-nothing (length-of-step e d) =
+      rw e (ap (λ t. cond t (move (step (w .process))) nothing) (ne-eqb (w .len) 0 d))
   asks-nothing (length-of-read e d f) = rw (e, ne-eqb (w .process) n d, ne-eqb (w .len) 0 f)
 
   -- what a move asks for that is not malformed: by its kind, and with a begin by its process
