@@ -62,7 +62,9 @@ extern "C" {
  * Number 8, and 2 for a count, are met only on areas that someone altered. Where several fit, the one that
  * comes first in the order given with the call is returned.
  * ended is 1 if the call ended a read or a write, or else 0. Where a read ended, age is how many writes later
- * than the one it read have ended; in every other answer age is 0. Making and the begins end nothing. */
+ * than the one it read had been published by then: writes ended, plus 1 while the writer has only its last step
+ * to make, less the number of the write it read, not below 0. In every other answer age is 0. Making and the
+ * begins end nothing. */
 typedef struct {
     uint64_t number, ended, age;
 } board_answer;

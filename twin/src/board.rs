@@ -1,6 +1,6 @@
 //! The board of document 01: one writer and N readers in a lent slice of 64-bit words.
 //! A call on an existing area first tests the whole area, then refuses in 01's order,
-//! and only then changes words.
+//! and only then changes words. The age of a read is that of request 1 of document 02.
 
 use crate::area::{counter, examine, index, reader, slot, writer, Layout, CURRENT, FORM};
 
@@ -171,12 +171,24 @@ fn copy_to_reader(area: &mut [u64], at: &Layout, desk: usize, last: usize) -> An
     GOES_ON
 }
 
+/// The read ends. Its age is the number of later writes published by now, not below 0.
 fn end_read(area: &mut [u64], at: &Layout, desk: usize) -> Answer {
     area[desk + reader::FINISHED] = 1;
     area[desk + reader::PHASE] = 0;
-    let writes_ended = area[at.writer + writer::WRITES_ENDED];
-    let age = writes_ended.saturating_sub(area[desk + reader::WRITE_NUMBER]);
+    let age = published_writes(area, at).saturating_sub(area[desk + reader::WRITE_NUMBER]);
     Answer { number: 0, ended: true, age }
+}
+
+/// Writes published: writes ended, plus 1 if the writer is in phase 7, where it has published and
+/// its last step is still to come.
+fn published_writes(area: &[u64], at: &Layout) -> u64 {
+    let writes_ended = area[at.writer + writer::WRITES_ENDED];
+    if area[at.writer + writer::PHASE] == 7 {
+        // On an undamaged area writes ended is below 2^64−1 unless the writer's phase is 0.
+        writes_ended + 1
+    } else {
+        writes_ended
+    }
 }
 
 fn step_writer(area: &mut [u64], at: &Layout) -> Answer {

@@ -1,4 +1,4 @@
-//! A second telling of the record board, written from document 01 alone.
+//! A second telling of the record board, written from document 01 and request 1 of document 02.
 
 pub mod area;
 pub mod board;

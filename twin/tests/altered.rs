@@ -1,4 +1,4 @@
-//! Areas that someone altered: numbers 1, 2, 7 and 8, and that a refusal changes nothing.
+//! Areas that someone altered: numbers 1, 2, 7 and 8, that a refusal changes nothing, and ages.
 
 use twin::area::{reader, slot, writer, Layout, CURRENT};
 use twin::board::{begin_read, begin_write, is_own, make, refused, show, step, Answer};
@@ -129,17 +129,72 @@ fn seven_eight_and_the_counter_form_of_two() {
     assert_eq!(area, before);
 }
 
+/// 2^64−1: as many writes as can end.
+const MAX: u64 = u64::MAX;
+
+/// A reader one step before the end of its read, in its step 4 on a slot of no words and in its step
+/// 5 on the last of two; the writer in some phase with so many writes ended; the read's write number.
+fn about_to_end(phase: u64, ended: u64, number: u64) -> [Vec<u64>; 2] {
+    let at = layout();
+    let (slot, desk, own) = (at.slot(0), at.reader(0), at.writer);
+    let in_writer =
+        [(own + writer::PHASE, phase), (own + writer::LEN, 1), (own + writer::WRITES_ENDED, ended)];
+    let of_no_words =
+        [(slot + slot::SIZE, 0), (slot + slot::WRITE_NUMBER, number), (desk + reader::PHASE, 4)];
+    // The number was taken in step 4; the slot's own is looked at no more.
+    let of_two_words = [
+        (slot + slot::WRITE_NUMBER, 1 << 63),
+        (desk + reader::PHASE, 5),
+        (desk + reader::LEN, 2),
+        (desk + reader::POS, 1),
+        (desk + reader::WRITE_NUMBER, number),
+    ];
+    [
+        with(&[&in_writer[..], &of_no_words].concat()),
+        with(&[&in_writer[..], &of_two_words].concat()),
+    ]
+}
+
+/// The read ends with this age.
+fn ends_with_age(phase: u64, ended: u64, number: u64, age: u64) {
+    for mut area in about_to_end(phase, ended, number) {
+        let answer = Answer { number: 0, ended: true, age };
+        assert_eq!(step(&mut area, 0), answer, "phase {phase}, {ended} ended, number {number}");
+    }
+}
+
 #[test]
 fn age_is_never_negative_and_never_wraps() {
-    let at = layout();
-    let (number, own) = (at.slot(0) + slot::WRITE_NUMBER, at.writer + writer::WRITES_ENDED);
-    for (read, ended, age) in [(5, 3, 0), (3, 5, 2), (0, u64::MAX, u64::MAX), (u64::MAX, 0, 0)] {
-        let mut area = with(&[(number, read), (own, ended)]);
-        begin_read(&mut area, 0);
-        for _ in 0..3 {
-            step(&mut area, 0);
+    for phase in 0..=7 {
+        // Published and not yet ended in phase 7 alone.
+        let more = u64::from(phase == 7);
+        ends_with_age(phase, 5, 3, 2 + more);
+        ends_with_age(phase, 5, 5, more);
+        for (ended, number) in [(5, 6), (5, 7), (0, 1), (0, 2), (0, MAX), (MAX - 2, MAX - 1)] {
+            ends_with_age(phase, ended, number, 0);
         }
-        assert_eq!(step(&mut area, 0), Answer { number: 0, ended: true, age });
+    }
+}
+
+#[test]
+fn age_at_the_most_writes() {
+    ends_with_age(7, MAX - 1, 0, MAX);
+    ends_with_age(7, MAX - 1, 1, MAX - 1);
+    ends_with_age(7, MAX - 1, MAX - 1, 1);
+    ends_with_age(7, MAX - 1, MAX, 0);
+    for phase in 0..=6 {
+        ends_with_age(phase, MAX - 1, 0, MAX - 1);
+        ends_with_age(phase, MAX - 1, MAX - 1, 0);
+        ends_with_age(phase, MAX - 1, MAX, 0);
+    }
+    ends_with_age(0, MAX, 0, MAX);
+    ends_with_age(0, MAX, 1, MAX - 1);
+    ends_with_age(0, MAX, MAX, 0);
+    // In any other phase this many is damage, and the read does not end.
+    for phase in 1..=7 {
+        for number in [0, 1, MAX] {
+            about_to_end(phase, MAX, number).iter().for_each(|area| all_refuse(area, 2));
+        }
     }
 }
 

@@ -1,4 +1,4 @@
-//! The command line as it is run: the stored example, a bad line told by its number, refused files.
+//! The command line as it is run: the stored examples, a bad line told by its number, refused files.
 
 use std::path::{Path, PathBuf};
 use std::process::{Command, Output};
@@ -8,6 +8,11 @@ use twin::text::to_run;
 
 const EXAMPLE: &str = include_str!("../examples/paused-worker.txt");
 const EXAMPLE_RUN: &[u8] = include_bytes!("../examples/paused-worker.run");
+const SECOND: &str = include_str!("../examples/paused-writer.txt");
+const SECOND_RUN: &[u8] = include_bytes!("../examples/paused-writer.run");
+
+/// The examples as texts and as run files, in the order of the README.
+const EXAMPLES: [(&str, &[u8]); 2] = [(EXAMPLE, EXAMPLE_RUN), (SECOND, SECOND_RUN)];
 
 fn twin(arguments: &[&str]) -> Output {
     Command::new(env!("CARGO_BIN_EXE_twin")).args(arguments).output().unwrap()
@@ -22,26 +27,31 @@ fn text(path: &Path) -> &str {
     path.to_str().unwrap()
 }
 
-/// The stored run file is the stored text, and every read's line stands in a comment of the text.
+/// The stored run files are the stored texts, and every read's line stands in a comment of its text.
 #[test]
-fn the_stored_example() {
-    assert_eq!(bytes(&to_run(EXAMPLE).unwrap()), EXAMPLE_RUN);
-    let printed = play(EXAMPLE_RUN);
-    let is_read = |line: &&str| line.contains(" S 0 1 ") && line.split(' ').count() > 5;
-    let reads: Vec<&str> = printed.lines().filter(is_read).collect();
-    assert_eq!(reads.len(), 3);
-    for read in reads {
-        assert!(EXAMPLE.contains(&format!("# {read}:")), "{read}");
+fn the_stored_examples() {
+    for (text, run) in EXAMPLES {
+        assert_eq!(bytes(&to_run(text).unwrap()), run);
+        let printed = play(run);
+        let is_read = |line: &&str| line.contains(" S 0 1 ") && line.split(' ').count() > 5;
+        let reads: Vec<&str> = printed.lines().filter(is_read).collect();
+        assert_eq!(reads.len(), 3);
+        for read in reads {
+            assert!(text.contains(&format!("# {read}:")), "{read}");
+        }
     }
 }
 
-/// The moves in the README are those of the stored example.
+/// The moves in the README are those of the stored examples.
 #[test]
-fn the_example_of_the_readme_is_the_stored_one() {
+fn the_examples_of_the_readme_are_the_stored_ones() {
     let readme = include_str!("../README.md");
-    let (_, from) = readme.split_once("```text\n").unwrap();
-    let (shown, _) = from.split_once("```").unwrap();
-    assert_eq!(to_run(shown).unwrap(), to_run(EXAMPLE).unwrap());
+    let shown: Vec<&str> = readme.split("```text\n").skip(1).collect();
+    assert_eq!(shown.len(), EXAMPLES.len());
+    for (from, (text, _)) in shown.iter().zip(EXAMPLES) {
+        let (moves, _) = from.split_once("```").unwrap();
+        assert_eq!(to_run(moves).unwrap(), to_run(text).unwrap());
+    }
 }
 
 #[test]

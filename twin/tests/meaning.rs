@@ -1,26 +1,33 @@
-//! What the reads of every played case may return, worked out from the printed text alone:
+//! What the reads of every played case may return, worked out from the moves and the printed text alone:
 //! a whole record, one that was current at some moment of the read, with the right age.
 
 use twin::cases::all;
 use twin::runfile::{bytes, parse, play, Move, Run, BEGIN, STEP};
 
-/// A write: its record and how far it is.
+/// A write under way: its record and how many steps are left to it.
 struct Write {
     record: Vec<u64>,
-    published: bool,
-    ended: bool,
     steps_left: usize,
 }
 
-/// Follows one run. The step that publishes is the last but one of a write, so a write's length
-/// in steps is looked up in the printed text first.
-fn check(run: &Run, printed: &str) -> usize {
+/// How many reads ended; how many of them between a write's publication and its last step; and how
+/// many of these gave an older record than the one published.
+#[derive(Default)]
+struct Reads {
+    all: usize,
+    before_last_step: usize,
+    older: usize,
+}
+
+/// Follows one run. `published` has the records in the order of their publications, the starting
+/// record first. The step that publishes is the last but one of a write, so a write's length in
+/// steps is looked up in the printed text first.
+fn check(run: &Run, printed: &str, reads: &mut Reads) {
     let lines = fields(printed, run.moves.len());
-    let start = run.values[..run.start].to_vec();
-    let mut writes = vec![Write { record: start, published: true, ended: true, steps_left: 0 }];
+    let mut published = vec![run.values[..run.start].to_vec()];
+    let mut write = Write { record: Vec::new(), steps_left: 0 };
     let mut used = run.start;
     let mut began_at = vec![0; run.n as usize];
-    let mut reads = 0;
     for (i, one) in run.moves.iter().enumerate() {
         let line = &lines[i];
         let process = usize::from(one.process);
@@ -28,26 +35,30 @@ fn check(run: &Run, printed: &str) -> usize {
             continue;
         }
         if one.kind == BEGIN && process < began_at.len() {
-            began_at[process] = writes.iter().filter(|write| write.published).count() - 1;
+            began_at[process] = published.len() - 1;
         } else if one.kind == BEGIN {
             let record = run.values[used..used + usize::from(one.length)].to_vec();
             used += record.len();
-            let steps_left = steps_of_write(run, &lines, i).unwrap_or(usize::MAX);
+            let steps_left = steps_of_write(run, &lines, i).expect("every write ends");
             let looks = steps_left.wrapping_sub(record.len() + 5);
-            assert!(steps_left == usize::MAX || (1..=run.n as usize + 2).contains(&looks));
-            writes.push(Write { record, published: false, ended: false, steps_left });
+            assert!((1..=run.n as usize + 2).contains(&looks));
+            write = Write { record, steps_left };
         } else if process == began_at.len() {
-            let write = writes.last_mut().unwrap();
             write.steps_left -= 1;
-            write.published = write.steps_left <= 1;
-            write.ended = write.steps_left == 0;
-            assert_eq!(line[4] == 1, write.ended);
+            if write.steps_left == 1 {
+                published.push(write.record.clone());
+            }
+            assert_eq!(line[4] == 1, write.steps_left == 0);
         } else if line[4] == 1 {
-            reads += 1;
-            assert!(is_of_its_time(line, began_at[process], &writes), "move {i}: {line:?}");
+            let since = began_at[process];
+            assert!(is_of_its_time(line, since, &published), "move {i}: {line:?}");
+            reads.all += 1;
+            if write.steps_left == 1 {
+                reads.before_last_step += 1;
+                reads.older += usize::from(line[5] > 0);
+            }
         }
     }
-    reads
 }
 
 /// The fields of the moves' lines as numbers, a letter as 0.
@@ -56,13 +67,11 @@ fn fields(printed: &str, moves: usize) -> Vec<Vec<u64>> {
     printed.lines().skip(1).take(moves).map(numbers).collect()
 }
 
-/// Whether a read that ends now gives the record and age of a write that was current since it began.
-fn is_of_its_time(line: &[u64], oldest: usize, writes: &[Write]) -> bool {
-    let newest = writes.iter().filter(|write| write.published).count() - 1;
-    let ended = writes.iter().filter(|write| write.ended).count() as u64 - 1;
-    let fits =
-        |k: usize| writes[k].record == line[6..] && ended.saturating_sub(k as u64) == line[5];
-    (oldest..=newest).any(fits)
+/// Whether a read that ends now gives the record of a write that was current since it began, and as
+/// its age how many writes later than that one have been published by now.
+fn is_of_its_time(line: &[u64], since: usize, published: &[Vec<u64>]) -> bool {
+    let later = |k: usize| published[k + 1..].len() as u64;
+    (since..published.len()).any(|k| published[k] == line[6..] && later(k) == line[5])
 }
 
 /// How many steps the write begun at move `from` takes, if it ends.
@@ -81,7 +90,7 @@ fn steps_of_write(run: &Run, lines: &[Vec<u64>], from: usize) -> Option<usize> {
 
 #[test]
 fn every_read_returns_a_record_of_its_time() {
-    let mut reads = 0;
+    let mut reads = Reads::default();
     for case in all() {
         let mut run = match parse(&case.file) {
             Some(run) => run,
@@ -91,7 +100,9 @@ fn every_read_returns_a_record_of_its_time() {
         let step = Move { process: run.n as u8, kind: STEP, length: 0 };
         run.moves.truncate(3_900);
         run.moves.extend([step; 60]);
-        reads += check(&run, &play(&bytes(&run)));
+        check(&run, &play(&bytes(&run)), &mut reads);
     }
-    assert!(reads > 500, "{reads} reads");
+    let Reads { all, before_last_step, older } = reads;
+    assert!(all > 500, "{all} reads");
+    assert!(before_last_step > 200 && older > 20, "{before_last_step} {older}");
 }

@@ -102,20 +102,23 @@ fn bad_move_lines() {
     );
 }
 
-/// The example in the README replays as it says.
+/// The examples in the README replay as it says.
 #[test]
-fn the_paused_worker_of_the_readme() {
+fn the_examples_of_the_readme() {
     let readme = include_str!("../README.md");
-    let (_, from) = readme.split_once("```text\n").unwrap();
-    let (text, after) = from.split_once("```").unwrap();
-    let printed = play(&bytes(&to_run(text).unwrap()));
-    let mut reads = Vec::new();
-    for line in printed.lines().filter(|line| !line.starts_with("end")) {
-        if line.split(' ').count() > 5 {
-            reads.push(line);
-            assert!(after.contains(&format!("`{line}`")), "{line}");
+    let ends = ["end 8589934594 45 0 2", "end 8589934594 47 0 1"];
+    for (from, end) in readme.split("```text\n").skip(1).zip(ends) {
+        let (text, after) = from.split_once("```").unwrap();
+        let printed = play(&bytes(&to_run(text).unwrap()));
+        let mut reads = Vec::new();
+        for line in printed.lines().filter(|line| !line.starts_with("end")) {
+            if line.split(' ').count() > 5 {
+                reads.push(line);
+                assert!(after.contains(&format!("`{line}`")), "{line}");
+            }
         }
+        assert_eq!(reads.len(), 3);
+        assert!(printed.ends_with(&format!("{end}\n")), "{printed}");
     }
-    assert_eq!(reads.len(), 3);
-    assert!(printed.ends_with("end 8589934594 45 0 2\n"), "{printed}");
+    assert!(readme.contains(&format!("`{}`", ends[1])));
 }

@@ -2,8 +2,10 @@
 -- Assumes nothing.
 use mathlib.Core.Bool.{cond, _&&_}
 use mathlib.Core.List.{List}
-use Prim.Native.Nat.{ℕ}
+use mathlib.Core.Path.{_≡_}
+use Prim.Native.Nat.{ℕ, _<_}
 use lib.Dec.{ltb}
+use Rattle.register.specs.Area.{writer-phase, writes-ended, most-writes}
 use Rattle.register.specs.Steps.{Plan, refuse, accept}
 use Rattle.register.specs.Calls.{Answer, refused, age-of}
 use Rattle.register.specs.Conditions.{Whole}
@@ -19,6 +21,10 @@ whole x a = record { number = x .number; ended = x .ended; age = x .age; area = 
 pub record Ready (p : Layout) (a : List ℕ) : Type 0 where
   pub sized : Sized p a
   pub sound : Whole (p .n) (p .c) (memory-of p a)
+
+-- a word has room for one more write while the writer is in phase 7
+abbrev pub Room : Layout → List ℕ → Type 0
+Room p a = memory-of p a writer-phase ≡ 7 → memory-of p a writes-ended < most-writes
 
 -- a plan of process q carried out
 unfoldable pub carried : Layout → ℕ → List ℕ → Plan → Answer

@@ -1,22 +1,25 @@
--- When writes ended, and the age of each finished read.
+-- When writes were published and ended, and the age of each finished read.
 --     Ends                                all writes have ended, but the newest in phase 7
 --     Aged                                a finished read with its age as the history has it
---     ended-now                           writes ended, as the writer's desk has it, is how many have
---     Dated, keeps-dates                  both, and that every accepted move keeps them
+--     published-now                       writes published, as the writer's desk has it, is how many have been
+--     all-later                           how many are later than a number, where all were published before now
+--     Dated, keeps-dates                  all of it, and that every accepted move keeps it
 -- Assumes nothing.
 use mathlib.Core.Path.{_≡_, refl, sym, ap, _∙_}
 use mathlib.Core.Logic.{_≢_}
-use mathlib.Core.Bool.{true, false}
+use mathlib.Core.Bool.{Bool, true, false, cond, _&&_}
 use mathlib.Core.List.{List, [], _∷_}
-use Prim.Native.Nat.{ℕ, suc, _-_, _≤_, _<_}
+use Prim.Native.Nat.{ℕ, suc, _+_, _-_, _≤_, _<_}
+use native.Mathlib.Decide.{ℕ-discrete, decLt}
 use native.Mathlib.Omega.{arith}
+use lib.Dec.{eqb, ltb}
 use lib.ListN.{length}
-use borrow.Author.Tests.{lt-ltb, le-ltb}
+use borrow.Author.Tests.{eq-eqb, ne-eqb, lt-ltb, le-ltb}
 use Rattle.register.specs.Place.{Record, Memory}
 use Rattle.register.specs.Area.{slot-write-number, last, desk-write-number, writer-phase}
 use Rattle.atomic.specs.History.{Event, Read, Write, History, closed, noted, the-read, the-write}
 use Rattle.register.specs.Lists.{Each, none, also}
-use Rattle.atomic.specs.Demands.{ended-before}
+use Rattle.atomic.specs.Demands.{later-published}
 use Rattle.register.proofs.Tests.{each-follows}
 use Rattle.atomic.proofs.Moves
 use Rattle.atomic.proofs.Moves.{Does, got-now}
@@ -33,37 +36,69 @@ pub data Ends (total now phase : ℕ) : List Write → Type 0 where
 pub record Aged (now : ℕ) (writes : List Write) (x : Read) : Type 0 where
   pub past : x .end < now
   pub own : x .gets .own ≡ true
-  pub age : x .gets .age ≡ ended-before (x .end) writes - x .gets .number
+  pub age : x .gets .age ≡ later-published (x .gets .number) (x .end) writes
 
--- ---- how many have ended
+-- ---- how many have been published
+
+-- one write counts if it is later and was published, and not otherwise
+counts : {later published : Bool} (x : ℕ) → later ≡ true → published ≡ true → cond (later && published) 1 0 + x ≡ suc x
+counts x e f = rw (e, f) (omega arith)
+
+counts-not : (later published : Bool) (x : ℕ) → later && published ≡ false → cond (later && published) 1 0 + x ≡ x
+counts-not later published x e = rw e (omega arith)
+
+-- where all writes were published before now, those later than number k are all but the first k
+all-later : (k now : ℕ) (writes : List Write) → Each (λ w. w .publication < now) writes
+    → later-published k now writes ≡ length writes - k
+all-later k now [] none = omega arith
+all-later k now (w ∷ writes) (also b rest) = go (all-later k now writes rest) (decLt k (suc (length writes)))
+  where
+    go : later-published k now writes ≡ length writes - k → Dec (k < suc (length writes))
+        → later-published k now (w ∷ writes) ≡ suc (length writes) - k
+    go e (yes l) =
+        counts (later-published k now writes) (lt-ltb k (suc (length writes)) l) (lt-ltb (w .publication) now b)
+        ∙ omega (arith, e)
+    go e (no d) =
+        counts-not (ltb k (suc (length writes))) (ltb (w .publication) now) (later-published k now writes)
+        (ap (λ q. q && ltb (w .publication) now) (le-ltb k (suc (length writes)) (omega arith)))
+        ∙ omega (arith, e)
+
+-- writes published, as the writer's desk has it
+published-now : {k phase len pos ended size number : ℕ} {given : Record} {mine words : ℕ → ℕ}
+    → Writing 7 given k phase len pos ended mine size number words → ended + cond (eqb phase 7) 1 0 ≡ k
+published-now {k = k} {phase = phase} {ended = ended} v = go (ℕ-discrete phase 7)
+  where
+    go : Dec (phase ≡ 7) → ended + cond (eqb phase 7) 1 0 ≡ k
+    go (yes e) = rw (eq-eqb phase 7 e) (omega (arith, v .published e))
+    go (no d) = rw (ne-eqb phase 7 d) (omega (arith, v .counted d))
+
+-- a write that is published at t or later is not counted before t
+not-counted : (k t : ℕ) (w : Write) (writes : List Write) → t ≤ w .publication
+    → later-published k t (w ∷ writes) ≡ later-published k t writes
+not-counted k t w writes l =
+    counts-not (ltb k (suc (length writes))) (ltb (w .publication) t) (later-published k t writes)
+    (ap (λ q. ltb k (suc (length writes)) && q) (le-ltb (w .publication) t l) ∙ and-false (ltb k (suc (length writes))))
+  where
+    and-false : (b : Bool) → b && false ≡ false
+    and-false true = refl
+    and-false false = refl
+
+-- the end of a write moves no publication
+closed-counted : (k t now steps : ℕ) (writes : List Write)
+    → later-published k t (closed now steps writes) ≡ later-published k t writes
+closed-counted k t now steps [] = refl
+closed-counted k t now steps (w ∷ writes) = refl
+
+times-closed : (t now steps : ℕ) (writes : List Write) → Each (λ w. w .publication < t) writes
+    → Each (λ w. w .publication < t) (closed now steps writes)
+times-closed t now steps [] none = none
+times-closed t now steps (w ∷ writes) (also b rest) = also b rest
+
+-- ---- one move later
 
 past-later : (now : ℕ) (writes : List Write) → Each (λ w. w .end < now) writes
     → Each (λ w. w .end < suc now) writes
 past-later now writes = each-follows (λ w b. omega arith)
-
-all-counted : (now : ℕ) (writes : List Write) → Each (λ w. w .end < now) writes → ended-before now writes
-    ≡ length writes
-all-counted now [] none = refl
-all-counted now (w ∷ writes) (also b rest) =
-    rw (lt-ltb (w .end) now b) (omega (arith, all-counted now writes rest))
-
--- a write that ends at t or later is not counted before t
-not-counted : (t : ℕ) (w : Write) (writes : List Write) → t ≤ w .end → ended-before t (w ∷ writes)
-    ≡ ended-before t writes
-not-counted t w writes l = rw (le-ltb (w .end) t l) (omega arith)
-
--- writes ended, as the writer's desk has it
-pub ended-now : {total now phase : ℕ} {writes : List Write} {given : Record} {len pos ended size number : ℕ}
-    {mine words : ℕ → ℕ}
-    → now ≤ total → Ends total now phase writes
-    → Writing 7 given (length writes) phase len pos ended mine size number words → ended ≡ ended-before now writes
-ended-now {now = now} {writes = writes} l (all-ended d past) v = v .counted d ∙ sym (all-counted now writes past)
-ended-now {now = now} l (one-open {w = w} {writes = writes} e still past) v =
-    let rest : ended-before now writes ≡ length writes = all-counted now writes past in
-    let newest : ended-before now (w ∷ writes) ≡ ended-before now writes = not-counted now w writes (omega arith) in
-    omega (arith, v .published e)
-
--- ---- one move later
 
 ends-later : {total now phase : ℕ} {writes : List Write} → Ends total now phase writes
     → Ends total (suc now) phase writes
@@ -75,9 +110,9 @@ all-past : {total now phase : ℕ} {writes : List Write} → phase ≢ 7 → End
 all-past {now = now} {writes = writes} d (all-ended x past) = past-later now writes past
 all-past d (one-open e still past) = absurd (d e)
 
--- a write that ends later changes no age
+-- a write that is published later changes no age
 ages-kept : (now : ℕ) (writes writes′ : List Write) (reads : List Read)
-    → ((t : ℕ) → t < now → ended-before t writes′ ≡ ended-before t writes) → Each (Aged now writes) reads
+    → ((k t : ℕ) → t < now → later-published k t writes′ ≡ later-published k t writes) → Each (Aged now writes) reads
     → Each (Aged (suc now) writes′) reads
 ages-kept now writes writes′ reads same = each-follows one
   where
@@ -86,20 +121,24 @@ ages-kept now writes writes′ reads same = each-follows one
         record {
           past = omega (arith, b .past);
           own = b .own;
-          age = b .age ∙ ap (λ k. k - x .gets .number) (sym (same (x .end) (b .past)));
+          age = b .age ∙ sym (same (x .gets .number) (x .end) (b .past));
         }
 
 -- ---- every accepted move
 
 pub record Dated (total : ℕ) (m : Memory) (h : History) : Type 0 where
   pub ends : Ends total (h .moves) (m writer-phase) (h .writes)
+  pub times : Each (λ w. w .publication < h .moves) (h .writes)
   pub ages : Each (Aged (h .moves) (h .writes)) (h .reads)
 
 module _ (n : ℕ) (first : Record) (total : ℕ) {m : Memory} {h : History} (w : Told n first m h)
     (v : Dated total m h)
     (t : h .moves < total) where
+  times-on : Each (λ w. w .publication < suc (h .moves)) (h .writes)
+  times-on = each-follows (λ w b. omega arith) (v .times)
+
   same-ages : Each (Aged (suc (h .moves)) (h .writes)) (h .reads)
-  same-ages = ages-kept (h .moves) (h .writes) (h .writes) (h .reads) (λ j l. refl) (v .ages)
+  same-ages = ages-kept (h .moves) (h .writes) (h .writes) (h .reads) (λ k j l. refl) (v .ages)
 
   -- a read that ends now with write number k
   one-age : (r k : ℕ) (u : Record)
@@ -109,38 +148,44 @@ module _ (n : ℕ) (first : Record) (total : ℕ) {m : Memory} {h : History} (w 
       (record {
         past = omega arith;
         own = refl;
-        age = ap (λ x. x - k) (ended-now (omega arith) (v .ends) (w .writer));
+        age = ap (λ x. x - k) (published-now (w .writer)) ∙ sym (all-later k (h .moves) (h .writes) (v .times));
       }) same-ages
 
+  -- a move of a reader, with the reads that have ended by then
+  reader-on : {m′ : Memory} (h′ : History) → h′ .moves ≡ suc (h .moves) → h′ .writes ≡ h .writes
+      → m′ writer-phase ≡ m writer-phase → Each (Aged (suc (h .moves)) (h .writes)) (h′ .reads) → Dated total m′ h′
+  reader-on h′ em ew ep ages =
+      record { ends = rw (em, ew, ep) (ends-later (v .ends)); times = rw (em, ew) times-on; ages = rw (em, ew) ages }
+
+  -- a move of the writer that publishes nothing and ends nothing
   writer-on : {m′ : Memory} (h′ : History) → h′ .moves ≡ suc (h .moves) → h′ .writes ≡ h .writes
       → h′ .reads ≡ h .reads → m writer-phase ≢ 7 → m′ writer-phase ≢ 7 → Dated total m′ h′
-  writer-on {m′ = m′} h′ em ew er d d′ =
-      record { ends = rw (em, ew) (all-ended d′ (all-past d (v .ends))); ages = rw (em, ew, er) same-ages }
+  writer-on h′ em ew er d d′ =
+      record {
+        ends = rw (em, ew) (all-ended d′ (all-past d (v .ends)));
+        times = rw (em, ew) times-on;
+        ages = rw (em, ew, er) same-ages;
+      }
 
-  closing : {now : ℕ} {writes : List Write} (k : ℕ) → now < total → m writer-phase ≡ 7
-      → Ends total now (m writer-phase) writes
+  closing : {now : ℕ} {writes : List Write} (k : ℕ) → m writer-phase ≡ 7 → Ends total now (m writer-phase) writes
       → Ends total (suc now) 0 (closed now k writes)
-      × ((j : ℕ) → j < now → ended-before j (closed now k writes) ≡ ended-before j writes)
-  closing k l e (all-ended d past) = absurd (d e)
-  closing {now = now} k l e (one-open {w = x} {writes = writes} e′ still past) = (
-    let past′ : now < suc now = omega arith in
-        all-ended (λ z. omega arith) (also past′ (past-later now writes past)),
-    λ j b. rw (le-ltb now j (omega arith), le-ltb (x .end) j (omega arith)),
-  )
+  closing k e (all-ended d past) = absurd (d e)
+  closing {now = now} k e (one-open {writes = writes} e′ still past) =
+      let past′ : now < suc now = omega arith in
+      all-ended (λ z. omega arith) (also past′ (past-later now writes past))
 
   pub keeps-dates : {c : ℕ} {m′ : Memory} {e : Event} → Does n c m e m′
       → Dated total m′ (noted total h (e .who) (e .what))
-  keeps-dates (Moves.read-starts r l e) = record { ends = ends-later (v .ends); ages = same-ages }
-  keeps-dates (Moves.finds-same r l e x) = record { ends = ends-later (v .ends); ages = same-ages }
-  keeps-dates (Moves.finds-other r l e x) = record { ends = ends-later (v .ends); ages = same-ages }
-  keeps-dates (Moves.leaves-slot r l e x) = record { ends = ends-later (v .ends); ages = same-ages }
-  keeps-dates (Moves.joins-slot r l e x) = record { ends = ends-later (v .ends); ages = same-ages }
+  keeps-dates (Moves.read-starts r l e) = reader-on _ refl refl refl same-ages
+  keeps-dates (Moves.finds-same r l e x) = reader-on _ refl refl refl same-ages
+  keeps-dates (Moves.finds-other r l e x) = reader-on _ refl refl refl same-ages
+  keeps-dates (Moves.leaves-slot r l e x) = reader-on _ refl refl refl same-ages
+  keeps-dates (Moves.joins-slot r l e x) = reader-on _ refl refl refl same-ages
   keeps-dates (Moves.takes-none r l e x) =
-      record { ends = ends-later (v .ends); ages = one-age r (m (slot-write-number (m (last r)))) _ }
-  keeps-dates (Moves.takes-size r l e x) = record { ends = ends-later (v .ends); ages = same-ages }
-  keeps-dates (Moves.copies-word r l e x) = record { ends = ends-later (v .ends); ages = same-ages }
-  keeps-dates (Moves.copies-last r l e x) =
-      record { ends = ends-later (v .ends); ages = one-age r (m (desk-write-number r)) _ }
+      reader-on _ refl refl refl (one-age r (m (slot-write-number (m (last r)))) _)
+  keeps-dates (Moves.takes-size r l e x) = reader-on _ refl refl refl same-ages
+  keeps-dates (Moves.copies-word r l e x) = reader-on _ refl refl refl same-ages
+  keeps-dates (Moves.copies-last r l e x) = reader-on _ refl refl refl (one-age r (m (desk-write-number r)) _)
   keeps-dates (Moves.write-starts u l e more) = writer-on _ refl refl refl (λ z. omega arith) (λ z. omega arith)
   keeps-dates (Moves.picks-empty e d x y) = writer-on _ refl refl refl (λ z. omega arith) (λ z. omega arith)
   keeps-dates (Moves.picks-slot e d x y) = writer-on _ refl refl refl (λ z. omega arith) (λ z. omega arith)
@@ -154,13 +199,15 @@ module _ (n : ℕ) (first : Record) (total : ℕ) {m : Memory} {h : History} (w 
       let w′ = the-write total h n false in
       record {
         ends = one-open refl refl (all-past (λ z. omega arith) (v .ends));
+        times = also {x = w′} (omega arith) times-on;
         ages = ages-kept (h .moves) (h .writes) (w′ ∷ h .writes) (h .reads)
-            (λ j l. not-counted j w′ (h .writes) (omega arith)) (v .ages);
+            (λ k j l. not-counted k j w′ (h .writes) (omega arith)) (v .ages);
       }
   keeps-dates (Moves.write-ends e) =
-      let (ends, same) = closing (suc (h .steps n)) t e (v .ends) in
+      let steps = suc (h .steps n) in
       record {
-        ends = ends;
-        ages = ages-kept (h .moves) (h .writes) (closed (h .moves) (suc (h .steps n)) (h .writes)) (h .reads) same
-            (v .ages);
+        ends = closing steps e (v .ends);
+        times = times-closed (suc (h .moves)) (h .moves) steps (h .writes) times-on;
+        ages = ages-kept (h .moves) (h .writes) (closed (h .moves) steps (h .writes)) (h .reads)
+            (λ k j l. closed-counted k j (h .moves) steps (h .writes)) (v .ages);
       }

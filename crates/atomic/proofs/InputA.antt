@@ -71,11 +71,11 @@ end-A = refl
 -- ---- the run of its accepted moves
 
 -- whether every move is accepted
-abbrev accepts : List ℕ → List Move → Bool
+abbrev pub accepts : List ℕ → List Move → Bool
 accepts a [] = true
 accepts a (x ∷ l) = eqb (answered a x .number) 0 && accepts (answered a x .area) l
 
-accepted-if : (a : List ℕ) (l : List Move) → T (accepts a l) → Accepted a l
+pub accepted-if : (a : List ℕ) (l : List Move) → T (accepts a l) → Accepted a l
 accepted-if a [] t = none
 accepted-if a (x ∷ l) t =
     let (z, rest) = both (eqb (answered a x .number) 0) (accepts (answered a x .area) l) t in

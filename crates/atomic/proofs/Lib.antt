@@ -9,6 +9,8 @@ mod Stays
 mod Placed
 mod Inserting
 mod Lining
+mod InputA
+mod Asleep
 mod Copying
 mod Told
 mod Telling
@@ -22,10 +24,10 @@ pub mod Called
 pub mod Observed
 mod Others
 pub mod Intact
+pub mod Ages
 pub mod Making
 pub mod Made
 pub mod Promise
 pub mod Ending
 mod Moments
 pub mod Complete
-mod InputA

@@ -15,6 +15,7 @@ use Rattle.register.specs.Area.{write-record}
 use Rattle.register.specs.Steps.{sets-phase, unbinds, binds, takes, copies, finishes, passes, sizes, clears-start}
 use Rattle.register.specs.Steps.{sets-out, clears-end}
 use Rattle.register.specs.Steps.{publishes, freezes}
+use Rattle.register.specs.Calls.{published-writes}
 use Rattle.atomic.specs.History.{Got, Deed, Event, read-began, write-began, went-on, looked, published}
 use Rattle.atomic.specs.History.{read-ended, write-ended}
 use Rattle.register.proofs.Places.{row}
@@ -46,7 +47,7 @@ desk-record m r = row (m (len r)) (λ i. m (read-record r i))
 
 -- what a read gets that ends now with a write number and a record
 abbrev pub got-now : Memory → ℕ → Record → Got
-got-now m k v = record { age = m writes-ended - k; number = k; own = true; shows = v }
+got-now m k v = record { age = published-writes m - k; number = k; own = true; shows = v }
 
 pub data Does (n c : ℕ) (m : Memory) : Event → Memory → Type 0 where
   read-starts : (r : ℕ) → r < n → m (phase r) ≡ 0 → Does n c m (by r read-began) (apply m (sets-phase r 1))

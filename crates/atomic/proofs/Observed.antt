@@ -2,12 +2,13 @@
 --     Says, says                          what each deed says of the memories before and after
 --     shows-desk                          the record that showing gives is the one in the desk
 --     same-ended                          a step answers "ended" where its plan ends
+--     still, age-before                   a step that ended a read: its reader is one, its age
 --     observed                            the event of an accepted call is that of its move
 -- Assumes nothing.
 use mathlib.Core.Path.{_≡_, refl, sym, ap, subst, _∙_}
 use mathlib.Core.Bool.{Bool, true, false, cond, _&&_}
 use mathlib.Core.List.{List, []}
-use Prim.Native.Nat.{ℕ, _+_, _≤_, _<_}
+use Prim.Native.Nat.{ℕ, _+_, _-_, _≤_, _<_}
 use native.Mathlib.Nat.{mul-le-mul-right}
 use native.Mathlib.Omega.{arith}
 use lib.Dec.{ltb, ltb→lt, lt→ltb, lit<}
@@ -17,7 +18,7 @@ use Rattle.register.specs.Place.{Memory, apply}
 use Rattle.register.specs.Table.{total, address}
 use Rattle.register.specs.Area.{phase, len, finished, desk-write-number, read-record, writer-phase}
 use Rattle.register.specs.Area.{readers, capacity, table, memory}
-use Rattle.register.specs.Calls.{age-of, carried-out, stepped, own-tests, is-own, words-from, shown}
+use Rattle.register.specs.Calls.{published-writes, age-of, carried-out, stepped, own-tests, is-own, words-from, shown}
 use Rattle.atomic.specs.History.{got, Deed, Event, read-began, write-began, went-on, looked, published}
 use Rattle.atomic.specs.History.{read-ended}
 use Rattle.atomic.specs.History.{write-ended, reader-deed, writer-deed, event}
@@ -34,14 +35,15 @@ use Rattle.atomic.proofs.Called.{Opened, does, after-head, after-area, 
 use Rattle.atomic.proofs.Called.{after-whole, after-sound}
 
 -- what a deed of process p says of the memories before and after: a reader that begins is one of the n, one whose read
--- has ended is idle and has finished; a publication ends nothing, and a write ends in phase 7
+-- has ended is idle and has finished, and published nothing; a publication ends nothing, and a write ends in phase 7
 abbrev pub Says : ℕ → ℕ → Deed → Memory → Memory → Type 0
 Says n p read-began m m′ = p < n
 Says n p (write-began v) m m′ = Unit {0}
 Says n p (went-on k) m m′ = Unit {0}
 Says n p looked m m′ = Unit {0}
 Says n p (published ended) m m′ = ended ≡ false
-Says n p (read-ended g) m m′ = (m′ (phase p) ≡ 0) × (m′ (finished p) ≡ 1)
+Says n p (read-ended g) m m′ =
+    (m′ (phase p) ≡ 0) × (m′ (finished p) ≡ 1) × (published-writes m′ ≡ published-writes m)
 Says n p write-ended m m′ = m writer-phase ≡ 7
 
 pub says : {n c : ℕ} {m m′ : Memory} {e : Event} → Does n c m e m′ → Says n (e .who) (e .what) m m′
@@ -50,10 +52,10 @@ says (Moves.finds-same r l e x) = tt
 says (Moves.finds-other r l e x) = tt
 says (Moves.leaves-slot r l e x) = tt
 says (Moves.joins-slot r l e x) = tt
-says (Moves.takes-none r l e x) = rw (eqb-same r) (refl, refl)
+says (Moves.takes-none r l e x) = rw (eqb-same r) (refl, refl, refl)
 says (Moves.takes-size r l e x) = tt
 says (Moves.copies-word r l e x) = tt
-says (Moves.copies-last r l e x) = rw (eqb-same r) (refl, refl)
+says (Moves.copies-last r l e x) = rw (eqb-same r) (refl, refl, refl)
 says (Moves.write-starts u l e more) = tt
 says (Moves.picks-empty e d x y) = tt
 says (Moves.picks-slot e d x y) = tt
@@ -97,13 +99,13 @@ module _ (a : List ℕ) (p : ℕ) (o : Opened a (step p)) where
   same-ended = ap (λ r. r .ended) (o .answers)
 
   module _ (l : p < readers a) (e : o .ends ≡ true) where
-    reader-rests : (m′ (phase p) ≡ 0) × (m′ (finished p) ≡ 1)
+    reader-rests : (m′ (phase p) ≡ 0) × (m′ (finished p) ≡ 1) × (published-writes m′ ≡ published-writes (memory a))
     reader-rests =
         let deed : seen (readers a) (memory a) (step p) (o .ends) m′ ≡ read-ended (seen-got m′ p) =
         rw (lt-ltb p (readers a) l, e) in
         subst (λ d. Says (readers a) p d (memory a) m′) deed (says (does o .0))
 
-    still : p < readers b
+    pub still : p < readers b
     still = subst (λ k. p < k) (sym (after-head o 1 (lit< tt))) l
 
     own-record : is-own b p ≡ true
@@ -133,6 +135,10 @@ module _ (a : List ℕ) (p : ℕ) (o : Opened a (step p)) where
     same-age =
         ap (λ r. r .age) (o .answers)
         ∙ (λ i. cond (e i && lt-ltb p (readers a) l i) (age-of (after-view o i) p) 0)
+
+    -- over the memory before the step, but for the write number
+    pub age-before : stepped a p .age ≡ published-writes (memory a) - m′ (desk-write-number p)
+    age-before = same-age ∙ ap (λ k. k - m′ (desk-write-number p)) (reader-rests .2)
 
     same-got : got p (stepped a p) ≡ seen-got m′ p
     same-got = λ i. record {

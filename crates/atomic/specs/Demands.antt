@@ -1,9 +1,10 @@
--- What is promised: demand 3 with its bounds, that every operation ends, and what any call keeps. Assumes nothing.
+-- What is promised: demand 3 with its bounds, that every operation ends, what any call keeps, and the age on any words.
+-- Assumes nothing.
 use mathlib.Core.Path.{_≡_}
 use mathlib.Core.Logic.{_≢_, _⊎_}
-use mathlib.Core.Bool.{Bool, true, false, cond, not}
+use mathlib.Core.Bool.{Bool, true, false, cond, not, _&&_}
 use mathlib.Core.List.{List, [], _∷_}
-use Prim.Native.Nat.{ℕ, suc, _+_, _-_, _≤_, _<_}
+use Prim.Native.Nat.{ℕ, suc, _+_, _≤_, _<_}
 use lib.Dec.{eqb, ltb, leb}
 use lib.ListN.{length, getD}
 use Rattle.register.specs.Lists.{Each}
@@ -16,6 +17,8 @@ use Rattle.register.specs.Area.{readers, capacity, table, is-area, memory, unda
 use Rattle.register.specs.Steps.{accept, Move, mover, plan}
 use Rattle.register.specs.Calls.{Answer, made, answered, read-begun, write-begun, stepped, shown}
 use Rattle.register.specs.Calls.{after}
+use Rattle.register.specs.Conditions.{word}
+use Rattle.register.specs.Stands.{desk, writer}
 use Rattle.atomic.specs.History.{Accepted, Write, History, history}
 use Rattle.atomic.specs.Line.{Line}
 
@@ -44,10 +47,11 @@ module _ (u : Run) where
 
 -- ---- demand 3
 
--- how many writes of a list ended before move t
-abbrev pub ended-before : ℕ → List Write → ℕ
-ended-before t [] = 0
-ended-before t (w ∷ l) = cond (ltb (w .end) t) 1 0 + ended-before t l
+-- how many writes of a list are later than write number k and were published before move t; the newest of a list has
+-- the list's length for its number
+abbrev pub later-published : ℕ → ℕ → List Write → ℕ
+later-published k t [] = 0
+later-published k t (w ∷ l) = cond (ltb k (suc (length l)) && ltb (w .publication) t) 1 0 + later-published k t l
 
 -- of a run of `all-moves` moves with n readers
 pub record Promise (n : ℕ) (first : Record) (all-moves : ℕ) (h : History) : Type 0 where
@@ -63,8 +67,8 @@ pub record Promise (n : ℕ) (first : Record) (all-moves : ℕ) (h : History) : 
       (λ x. (x .steps ≡ length (x .gets .shows) + 2) ⊎ (x .steps ≡ length (x .gets .shows) + 4)) (h .reads)
   -- each finished read's record is the reader's own to show
   pub own : Each (λ x. x .gets .own ≡ true) (h .reads)
-  -- its age is how many writes later than the one it read had ended
-  pub ages : Each (λ x. x .gets .age ≡ ended-before (x .end) (h .writes) - x .gets .number) (h .reads)
+  -- its age is how many writes later than the one it read were published before it ended
+  pub ages : Each (λ x. x .gets .age ≡ later-published (x .gets .number) (x .end) (h .writes)) (h .reads)
 
 abbrev pub Demand3 : Type 0
 Demand3 = (u : Run) → Promise (u .n) (u .first) (length (u .moves)) (told u)
@@ -146,6 +150,26 @@ pub record Intact (a : List ℕ) (x : Move) : Type 0 where
 abbrev pub Keeps : Type 0
 Keeps = (a : List ℕ) (x : Move)
     → (answered a x .number ≢ 0 → Refused a (answered a x)) × (answered a x .number ≡ 0 → Intact a x)
+
+-- ---- the age, on any words
+
+-- z is x less y, not below 0
+pub record Less (x y z : ℕ) : Type 0 where
+  pub less : y ≤ x → z + y ≡ x
+  pub not-below : x ≤ y → z ≡ 0
+
+-- the answer to a step of reader r that ended its read, from words 0 and 6 of the writer's desk (its phase, writes
+-- ended) and from the read's write number
+pub record Aged (a : List ℕ) (r : ℕ) : Type 0 where
+  -- writes ended, plus 1 if the writer is in phase 7, less the read's write number, not below 0
+  pub asleep : writer a 0 ≡ 7 → Less (writer a 6 + 1) (desk (stepped a r .area) r 4) (stepped a r .age)
+  pub otherwise : writer a 0 ≢ 7 → Less (writer a 6) (desk (stepped a r .area) r 4) (stepped a r .age)
+  -- the sum and the age are no more than a word holds
+  pub sum-fits : writer a 0 ≡ 7 → writer a 6 + 1 ≤ 18446744073709551615
+  pub age-fits : writer a 6 ≤ 18446744073709551615 → stepped a r .age ≤ 18446744073709551615
+
+abbrev pub Ages : Type 0
+Ages = (a : List ℕ) (r : ℕ) → r < word a 1 → stepped a r .ended ≡ true → Aged a r
 
 -- ---- making
 

@@ -1,35 +1,51 @@
 -- Steps 4 and 5 of a reader by each way through their code, over what the code reads and stores. Assumes nothing.
 --     word-there                      the word that the reader copies is one of its record's
+--     one-more, asleep, awake         the writes published: the sum fits into a word, and is the definition's
 --     ended                           the end of a read: what it stores does not bear on the age
+--     room-taken, room-copied         what is stored before that leaves room for one more write
 --     taken, took-none, took-some     step 4: what is stored before the size is tested, and the two ways on
 --     copied-all, copied-one          step 5: the two ways on from the word that is copied
-use mathlib.Core.Path.{_≡_, sym, ap, ap₂, _∙_}
+use mathlib.Core.Path.{_≡_, refl, sym, ap, ap₂, subst, _∙_}
 use mathlib.Core.Logic.{_≢_}
 use mathlib.Core.Bool.{true, false, cond}
 use mathlib.Core.List.{List, [], _∷_, _++_}
 use Prim.Native.Nat.{ℕ, _+_, _<_}
 use native.Mathlib.Numerals.{add-one}
 use native.Mathlib.Omega.{arith}
-use lib.Dec.{ltb}
+use lib.Dec.{eqb, ltb}
 use borrow.Author.Tests.{eq-eqb, ne-eqb, lt-ltb}
-use Rattle.register.specs.Place.{Memory, _≔_}
+use Rattle.register.specs.Place.{Memory, Store, _≔_, apply}
 use Rattle.register.specs.Area.{form1, size, slot-write-number, contents}
 use Rattle.register.specs.Area.{phase, last, pos, len, desk-write-number, finished, read-record}
 use Rattle.register.specs.Steps.{accept, sets-phase, takes, copies, finishes, reader-4, reader-5}
+use Rattle.register.specs.Area.{writer-phase, writes-ended, most-writes}
 use Rattle.register.specs.Calls.{age-of}
 use Rattle.register.specs.Lists.{none, also}
-use Rattle.register.proofs.Tables.{view-store}
-use Rattle.register.proofs.Form1.{body-desk}
+use Rattle.register.proofs.Tables.{AllHas, view-store}
+use Rattle.register.proofs.Form1.{body-desk, body-read-record}
 use Rattle.area.specs.Words.{Sized, memory-of, words-after}
 use Rattle.area.specs.declared.Layout.{Layout}
 use Rattle.answer.specs.declared.Answer.{Answer as Returned}
-use Rattle.answer.specs.Carried.{whole, Ready, carried}
+use Rattle.answer.specs.Carried.{whole, Ready, Room, carried}
 use Rattle.answer.proofs.Stored.{then, returned, plan-accepts, goes-on}
 
 -- the word that the reader copies
 pub word-there : {p : Layout} {a : List ℕ} {r i : ℕ} → Ready p a → r < p .n → memory-of p a (phase r) ≡ 5
     → i ≡ memory-of p a (pos r) → i < p .c
 word-there {r = r} v h e f = let d = v .sound .desk r h in omega (arith, d .copying e, d .words, f)
+
+-- ---- the writes published by now
+
+-- `last` and `writer` are what the memory holds of writes ended and of the writer's phase
+module _ {ended phase last writer : ℕ} (e : ended ≡ last) (f : phase ≡ writer) where
+  pub one-more : phase ≡ 7 → (writer ≡ 7 → last < most-writes) → ended + 1 < 18446744073709551616
+  one-more h room = omega (arith, room (sym f ∙ h))
+
+  pub asleep : phase ≡ 7 → ended + 1 ≡ last + cond (eqb writer 7) 1 0
+  asleep h = rw (← e, ← f, eq-eqb phase 7 h)
+
+  pub awake : phase ≢ 7 → ended ≡ last + cond (eqb writer 7) 1 0
+  awake d = rw (← e, ← f, ne-eqb phase 7 d) (omega arith)
 
 -- ---- the end of a read: what it stores does not bear on the age
 
@@ -52,6 +68,32 @@ ended p r a s h e f g =
 
     same : cond (ltb r (p .n)) (age-of later r) 0 ≡ age-of (memory-of p a) r
     same = ap (λ q. cond q (age-of later r) 0) (lt-ltb r (p .n) h) ∙ kept
+
+-- ---- what steps 4 and 5 store before a read ends leaves the writer's words as they are
+
+module _ (p : Layout) (r : ℕ) (a : List ℕ) (v : Ready p a) (h : r < p .n) where
+  abbrev before : Memory
+  before = memory-of p a
+
+  room-behind : (l : List Store) {b : List ℕ} → b ≡ words-after p a l → AllHas (form1 (p .n) (p .c)) l
+      → apply before l writer-phase ≡ before writer-phase → apply before l writes-ended ≡ before writes-ended → Room p b
+  room-behind l e has f g =
+      subst (λ m. m writer-phase ≡ 7 → m writes-ended < most-writes)
+      (sym (ap (memory-of p) e ∙ view-store (form1 (p .n) (p .c)) a l (v .sized .exact) has))
+      (λ s. rw g (v .sound .writer .room (λ z. omega arith)))
+
+  pub room-taken : {b : List ℕ} → b ≡ words-after p a (takes before r) → Room p b
+  room-taken e =
+      room-behind (takes before r) e
+      (also (body-desk (p .n) (p .c) 3 r (omega arith) h .has)
+      (also (body-desk (p .n) (p .c) 4 r (omega arith) h .has)
+      (also (body-desk (p .n) (p .c) 2 r (omega arith) h .has) none))) refl refl
+
+  pub room-copied : {b : List ℕ} → before (phase r) ≡ 5 → b ≡ words-after p a (copies before r) → Room p b
+  room-copied s e =
+      room-behind (copies before r) e
+      (also (body-read-record (p .n) (p .c) r (before (pos r)) h (word-there v h s refl) .has)
+      (also (body-desk (p .n) (p .c) 2 r (omega arith) h .has) none)) refl refl
 
 module _ (p : Layout) (r : ℕ) (a : List ℕ) (m : Memory) where
   -- ---- step 4: what is stored before the size is tested, and the two ways on
@@ -83,7 +125,7 @@ module _ (p : Layout) (r : ℕ) (a : List ℕ) (m : Memory) where
   module _ {s i l w : ℕ} {b d : List ℕ} (slot : s ≡ m (last r)) (at : i ≡ m (pos r)) (words : l ≡ m (len r))
       (word : w ≡ m (contents s i)) (first : b ≡ words-after p a (read-record r i ≔ w ∷ []))
       (second : d ≡ words-after p b (pos r ≔ (i + 1) ∷ [])) where
-    copied : d ≡ words-after p a (copies m r)
+    pub copied : d ≡ words-after p a (copies m r)
     copied = rw (← slot, ← at, ← word, ← add-one i)
         (then p a (read-record r i ≔ w ∷ []) (pos r ≔ (i + 1) ∷ []) first second)
 

@@ -9,9 +9,9 @@ ghost use mathlib.Core.Bool.{true};
 ghost use Prim.Native.Nat.{_<_};
 ghost use Rattle.register.specs.Area.{phase};
 ghost use Rattle.register.specs.Steps.{accept, finishes, reader-4, reader-5};
-ghost use Rattle.register.specs.Calls.{age-of};
+ghost use Rattle.register.specs.Calls.{published-writes, age-of};
 ghost use Rattle.area.specs.Words.{Sized, memory-of};
-ghost use Rattle.answer.specs.Carried.{whole, Ready, carried};
+ghost use Rattle.answer.specs.Carried.{whole, Ready, Room, carried};
 
 // Step 4: take size and write number of slot last. A record of no words ends the read.
 pub fn takes(area: &mut [u64], p: Layout, r: usize) -> Answer
@@ -59,7 +59,7 @@ pub fn copies(area: &mut [u64], p: Layout, r: usize) -> Answer
 
 // The end of a read: finished becomes 1, phase 0. The answer has its age.
 fn finishes(area: &mut [u64], p: Layout, r: usize) -> Answer
-    requires { ⌜ Sized p (now area) × (r < p .n) ⌝ }
+    requires { ⌜ Sized p (now area) × (r < p .n) × Room p (now area) ⌝ }
     ensures { λ x. ⌜
         whole x (now (area .exit))
         ≡ carried p r (now (area .entry)) (accept (finishes r) true)
@@ -75,12 +75,22 @@ fn finishes(area: &mut [u64], p: Layout, r: usize) -> Answer
     }
 }
 
-// Writes ended less the read's write number, and 0 if that would be negative.
+// Writes published less the read's write number, not below 0.
 fn age_of(area: &[u64], p: Layout, r: usize) -> u64
-    requires { ⌜ Sized p (now area) × (r < p .n) ⌝ }
+    requires { ⌜ Sized p (now area) × (r < p .n) × Room p (now area) ⌝ }
     ensures { λ x. ⌜ x ≡ age-of (memory-of p (now (area .entry))) r ⌝ }
 {
-    let ended = fields::writer_field(area, p, Layout::WRITES_ENDED);
+    let newest = published_writes(area, p);
     let number = fields::desk_field(area, p, r, Layout::DESK_NUMBER);
-    if ended < number { 0 } else { ended - number }
+    if newest < number { 0 } else { newest - number }
+}
+
+// The writes published by now: writes ended, plus 1 if the writer is in phase 7.
+fn published_writes(area: &[u64], p: Layout) -> u64
+    requires { ⌜ Sized p (now area) × Room p (now area) ⌝ }
+    ensures { λ x. ⌜ x ≡ published-writes (memory-of p (now (area .entry))) ⌝ }
+{
+    let ended = fields::writer_field(area, p, Layout::WRITES_ENDED);
+    let phase = fields::writer_field(area, p, Layout::WRITER_PHASE);
+    if phase == 7 { ended + 1 } else { ended }
 }

@@ -2,6 +2,7 @@
 pub mod SmallRuns
 mod Shortcuts
 mod Touches
+mod Ages
 pub mod Tests
 pub mod Places
 pub mod Tables

@@ -1,13 +1,13 @@
 -- The calls: from any words, any process and any record to the answer and every word after the call. Assumes nothing.
 use mathlib.Core.Bool.{Bool, false, cond, _&&_}
 use mathlib.Core.List.{List, [], _∷_}
-use Prim.Native.Nat.{ℕ, _-_}
+use Prim.Native.Nat.{ℕ, _+_, _-_}
 use lib.Dec.{eqb, ltb, leb}
 use lib.ListN.{length, take, drop, replicate}
 use Rattle.register.specs.Place.{Record, Memory, Store, _≔_, copied}
 use Rattle.register.specs.Table.{total, address, view, store}
 use Rattle.register.specs.Area.{form1, slots-at, desks-at, writer-at, header, current, size, contents}
-use Rattle.register.specs.Area.{phase, len, desk-write-number, finished, read-record, writes-ended}
+use Rattle.register.specs.Area.{phase, len, desk-write-number, finished, read-record, writer-phase, writes-ended}
 use Rattle.register.specs.Area.{all, in-range, known-form, readers, capacity, table, is-area, memory, undamaged}
 use Rattle.register.specs.Steps.{_else_, unless}
 use Rattle.register.specs.Steps.{Plan, refuse, accept, Move, read, write, step, mover, plan}
@@ -45,9 +45,13 @@ made form n c v a =
 
 -- ---- calls on an existing area
 
--- writes ended less the read's write number, and 0 if that would be negative
+-- the writes published by now: writes ended, plus 1 if the writer is in phase 7
+abbrev pub published-writes : Memory → ℕ
+published-writes m = m writes-ended + cond (eqb (m writer-phase) 7) 1 0
+
+-- the age (request 1 of document 02): writes published less the read's write number, not below 0
 abbrev pub age-of : Memory → ℕ → ℕ
-age-of m r = m writes-ended - m (desk-write-number r)
+age-of m r = published-writes m - m (desk-write-number r)
 
 -- a plan carried out; p, the process, matters to the age alone, which only the end of a read has
 unfoldable pub carried-out : ℕ → List ℕ → Plan → Answer

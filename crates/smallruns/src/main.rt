@@ -1,5 +1,5 @@
-// Runs the small runs of document 01 that are not proved of the definitions, on the calls of `board`, and prints
-// each answer: its number, then "ended" and the age where an operation ended.
+// Runs the small runs of document 01 that are not proved of the definitions, and those of document 02's requests, on
+// the calls of `board`, and prints each answer: its number, then "ended" and the age where an operation ended.
 use answer::Answer;
 use area::Layout;
 
@@ -152,6 +152,68 @@ fn largest() {
     show(&area, &[8, 9]);
 }
 
+// So many steps of a process, of which nothing is told.
+fn steps(area: &mut [u64], process: u64, k: u64) {
+    let mut i = 0;
+    while i < k {
+        i += 1;
+        board::steps::step(area, process);
+    }
+}
+
+// A reader that has one word left to copy, of a starting record of one word.
+fn almost_read(area: &mut [u64]) {
+    board::making::make(1, 1, 1, &[7], area);
+    board::reads::begin_read(area, 0);
+    steps(area, 0, 2);
+}
+
+// That read ends when the writer has made k steps of a write, which takes eight: six, and it is in phase 6.
+fn ends_beside(k: u64) {
+    let mut area = [5u64; 38];
+    almost_read(&mut area);
+    board::writes::begin_write(&mut area, &[8]);
+    steps(&mut area, 1, k);
+    step(&mut area, 0);
+}
+
+// Request 1: the age counts a write from its publication on, in phase 7 too.
+fn beside_a_write() {
+    line(b"a read ends in writer phases 5, 6, 7, 0:");
+    ends_beside(5);
+    ends_beside(6);
+    ends_beside(7);
+    ends_beside(8);
+}
+
+// That read ends on an altered area: its write number, the writer's phase, writes ended.
+fn ends_altered(number: u64, phase: u64, ended: u64) {
+    let mut area = [5u64; 38];
+    almost_read(&mut area);
+    area[27] = number;
+    area[30] = phase;
+    area[36] = ended;
+    step(&mut area, 0);
+}
+
+fn number_above() {
+    line(b"a write number above the writes published:");
+    ends_altered(5, 0, 3);
+    ends_altered(5, 7, 3);
+    ends_altered(4, 7, 3);
+    ends_altered(18446744073709551615, 0, 0);
+}
+
+fn most_writes() {
+    line(b"2^64-2 writes ended in phase 7:");
+    ends_altered(0, 7, 18446744073709551614);
+    ends_altered(18446744073709551614, 7, 18446744073709551614);
+    ends_altered(18446744073709551615, 7, 18446744073709551614);
+    line(b"2^64-1 writes ended in phases 0 and 7:");
+    ends_altered(0, 0, 18446744073709551615);
+    ends_altered(0, 7, 18446744073709551615);
+}
+
 fn main() {
     io::write_all(1, b"small runs");
     made_out_of_range();
@@ -161,5 +223,8 @@ fn main() {
     processes();
     damaged();
     largest();
+    beside_a_write();
+    number_above();
+    most_writes();
     io::write_all(1, b"\n");
 }

@@ -94,7 +94,7 @@ impl std::error::Error for Refusal {}
 pub enum Outcome {
     /// The operation goes on.
     GoesOn,
-    /// A read ended, and so many later writes had ended by then.
+    /// A read ended, and so many later writes had been published by then.
     ReadEnded { age: u64 },
     /// A write ended.
     WriteEnded,

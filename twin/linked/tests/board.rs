@@ -35,6 +35,27 @@ fn a_paused_worker_wakes() {
     assert_eq!(board.record_or(0, &[]), [1, 2, 3]);
 }
 
+/// The write is published and its last step is still to come: for the worker it is a later one.
+#[test]
+fn a_paused_writer_has_published() {
+    let mut board = Board::fresh(2, 3, &[1, 2, 3]).unwrap();
+    board.begin_read(0).unwrap();
+    for _ in 0..4 {
+        assert_eq!(board.step(0), Ok(Outcome::GoesOn));
+    }
+    board.begin_write(&[4, 5, 6]).unwrap();
+    // Two looks, three words, four steps.
+    for _ in 0..9 {
+        assert_eq!(board.step(2), Ok(Outcome::GoesOn));
+    }
+    board.begin_read(1).unwrap();
+    assert_eq!(finish(&mut board, 1), Outcome::ReadEnded { age: 0 });
+    assert_eq!(board.record(1), Some(&[4, 5, 6][..]));
+    assert_eq!(board.step(0), Ok(Outcome::ReadEnded { age: 1 }));
+    assert_eq!(board.record(0), Some(&[1, 2, 3][..]));
+    assert_eq!(board.step(2), Ok(Outcome::WriteEnded));
+}
+
 #[test]
 fn a_borrowed_area_outlives_its_board() {
     let mut area = vec![5; exports::words(1, 1, 1) as usize];

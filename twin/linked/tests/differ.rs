@@ -1,12 +1,15 @@
 //! The differential test itself: sessions come back from what they print, the same seed does the same
 //! deeds, and a difference is noticed in an answer and in a word (in a guard word: src/lent.rs).
 
+use linked::deed::Deed;
 use linked::differ::plan::{sessions, Form};
 use linked::differ::Session;
 use linked::exports::{self, Answer};
-use linked::pair::Pair;
+use linked::lent::Lent;
+use linked::pair::{Difference, Driven, Pair};
 use linked::side::{self, Side};
 use linked::trace;
+use twin::area::{reader, writer, Layout};
 
 #[test]
 fn a_session_comes_back_from_what_it_prints() {
@@ -38,6 +41,46 @@ fn the_same_session_does_the_same_deeds() {
     trace::write(&session, side::proved(), &mut second).unwrap();
     assert!(first.len() > 10_000);
     assert!(first == second);
+}
+
+/// The twin alone, and what it met: reads that ended in each phase of the writer, those of them that
+/// ended in phase 7 with a record older than the one published, and steps that were refused.
+struct Met {
+    twin: Lent,
+    by_phase: [u64; 8],
+    older: u64,
+    refused: u64,
+}
+
+impl Driven for Met {
+    fn act(&mut self, deed: &Deed) -> Result<Answer, Box<Difference>> {
+        let answer = self.twin.act(deed);
+        if let (Deed::Step(number), Some(at)) = (deed, Layout::new(2, 2)) {
+            let (area, desk) = (self.twin.area(), at.reader(*number as usize));
+            let phase = area[at.writer + writer::PHASE];
+            let ended = area[at.writer + writer::WRITES_ENDED];
+            let older = phase == 7 && area[desk + reader::WRITE_NUMBER] <= ended;
+            self.by_phase[phase as usize] += answer.ended;
+            self.older += answer.ended * u64::from(older);
+            self.refused += u64::from(answer.number == 2);
+        }
+        Ok(answer)
+    }
+
+    fn area(&self) -> &[u64] {
+        self.twin.area()
+    }
+}
+
+/// Sixteen reads for every phase and every number of writes ended; 2^64−1 ended in phase 0 alone.
+#[test]
+fn ages_are_of_reads_that_end_in_every_phase() {
+    let session = Session::parse(&["ages", "2", "2", "2", "0"]).unwrap();
+    let twin = Lent::new(side::twin(), session.room());
+    let mut met = Met { twin, by_phase: [0; 8], older: 0, refused: 0 };
+    assert!(session.run(&mut met).is_ok());
+    assert_eq!(met.by_phase, [7 * 16, 96, 96, 96, 96, 96, 96, 96]);
+    assert_eq!((met.older, met.refused), (48, 7 * 16));
 }
 
 /// The call on which a pair of the twin and this side differs, if any of a lively session does.

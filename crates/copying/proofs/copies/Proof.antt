@@ -4,7 +4,7 @@ use mathlib.Core.Path.{_∙_}
 use native.Mathlib.Omega.{arith}
 use Rattle.area.specs.Words.{memory-of}
 use Rattle.answer.proofs.Stored.{still-sized, bound-slot}
-use Rattle.copying.proofs.Copied.{word-there, copied-all, copied-one}
+use Rattle.copying.proofs.Copied.{word-there, room-copied, copied, copied-all, copied-one}
 use Rattle.copying.proofs.copies.Statement.{statement}
 use Rattle.copying.proofs.copies.Tie as tie
 
@@ -51,9 +51,19 @@ finishes-requires : tie.Need-finishes-requires
 finishes-requires c κs =
     let second = c .before .before .before .before in
     let first = second .before .before .before .before in
-    let start = first .before .before .before .before .before .before .before .before in (
+    let word = first .before .before in
+    let len = word .before in
+    let pos = len .before in
+    let slot = pos .before in
+    let start = slot .before .before .before in
+    let p = start .args .p in
+    let r = start .args .r in
+    let a = start .args .area .now in (
       still-sized (start .pre .0 .sized) (second .set-desk-field .kept .0 ∙ first .set-read-record .kept .0),
       start .pre .1,
+      room-copied p r a (start .pre .0) (start .pre .1) (start .pre .2)
+          (copied p r a (memory-of p a) (slot .desk-field .ensures) (pos .desk-field2 .ensures) (len .desk-field3 .ensures)
+          (word .contents-word .ensures) (first .set-read-record .ensures) (second .set-desk-field .ensures)),
     )
 
 same-length : tie.Need-same-length

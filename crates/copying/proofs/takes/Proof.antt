@@ -5,7 +5,7 @@ use lib.ListN.{length}
 use Rattle.register.specs.Steps.{takes}
 use Rattle.area.specs.Words.{memory-of, words-after}
 use Rattle.answer.proofs.Stored.{still-sized, bound-slot}
-use Rattle.copying.proofs.Copied.{taken, took-none, took-some}
+use Rattle.copying.proofs.Copied.{room-taken, taken, took-none, took-some}
 use Rattle.copying.proofs.takes.Statement.{statement}
 use Rattle.copying.proofs.takes.Tie as tie
 
@@ -73,7 +73,12 @@ set-desk-field-requires-3 c κs =
 finishes-requires : tie.Need-finishes-requires
 finishes-requires c κs =
     let third = c .before .before .before .before in
-    (still-sized (start third .pre .0 .sized) (as-many third), start third .pre .1)
+    let first = start third in (
+      still-sized (first .pre .0 .sized) (as-many third),
+      first .pre .1,
+      room-taken (first .args .p) (first .args .r) (first .args .area .now) (first .pre .0) (first .pre .1)
+          (stored third),
+    )
 
 same-length : tie.Need-same-length
 same-length c =

@@ -1,6 +1,7 @@
 //! Sessions of calls, each told by its kind, its sizes, a seed and how many calls it makes at the least.
 //! The same five always do the same deeds.
 
+mod ages;
 mod altered;
 mod damaged;
 pub mod lively;
@@ -21,6 +22,8 @@ pub enum Kind {
     Lively,
     /// Areas whose words are any that an undamaged area may have, and some that it may not.
     Altered,
+    /// Reads that end in every phase of the writer, with write numbers at the edges.
+    Ages,
     /// Every word in turn becomes every boundary value, and every call is tried.
     Damaged,
     /// Every word in turn becomes a few values, and a few calls are tried: for large areas.
@@ -31,9 +34,10 @@ pub enum Kind {
     Lengths,
 }
 
-const KINDS: [(Kind, &str); 6] = [
+const KINDS: [(Kind, &str); 7] = [
     (Kind::Lively, "lively"),
     (Kind::Altered, "altered"),
+    (Kind::Ages, "ages"),
     (Kind::Damaged, "damaged"),
     (Kind::Swept, "swept"),
     (Kind::Making, "making"),
@@ -92,6 +96,7 @@ impl Session {
         match self.kind {
             Kind::Lively => lively::run(self, &at, on),
             Kind::Altered => altered::run(self, &at, on),
+            Kind::Ages => ages::run(self, &at, on),
             Kind::Damaged => damaged::every_value(self, &at, on),
             Kind::Swept => damaged::few_values(self, &at, on),
             Kind::Making => making::run(self, on),

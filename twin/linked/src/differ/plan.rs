@@ -29,6 +29,7 @@ pub fn sessions(form: Form) -> Vec<Session> {
         add(Kind::Making, 1, 1, 1000 + seed, 1000);
     }
     for (n, c) in SMALL {
+        add(Kind::Ages, n, c, 2, 0);
         add(Kind::Lengths, n, c, 2, 0);
         for seed in 0..if long { 16 } else { 2 } {
             add(Kind::Damaged, n, c, seed, 0);
@@ -45,6 +46,7 @@ pub fn sessions(form: Form) -> Vec<Session> {
         }
     }
     for (n, c) in [(64, 1), (1, 256), (8, 32)] {
+        add(Kind::Ages, n, c, 3, 0);
         add(Kind::Swept, n, c, 3, 0);
         add(Kind::Lengths, n, c, 3, 0);
         if long {
