@@ -245,7 +245,8 @@ module _ (n c : ℕ) (v : Record) where
         }
 
     pub first-dated : (all-moves : ℕ) → Dated all-moves first-memory nothing-yet
-    first-dated all-moves = record { ends = all-ended (λ e. omega (arith, at-writer 0)) none; times = none; ages = none }
+    first-dated all-moves =
+        record { ends = all-ended (λ e. omega (arith, at-writer 0)) none; times = none; ages = none }
 
     pub first-clean : Clean n first-memory
     first-clean =

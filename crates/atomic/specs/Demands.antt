@@ -108,8 +108,8 @@ pub record UnderWay (n : ℕ) (first : Record) (a : List ℕ) (h : History) : Ty
       → memory a (len r) ≡ length (record-of first (h .writes) (memory a (desk-write-number r)))
   pub reads : (r : ℕ) → r < n → memory a (phase r) ≡ 5 → h .steps r < memory a (len r) + 4
 
--- together: the next step of a busy process is accepted, and whoever is busy has made fewer steps than its bound; so each
--- operation ends within its bound
+-- together: the next step of a busy process is accepted, and whoever is busy has made fewer steps than its bound; so
+-- each operation ends within its bound
 abbrev pub Ends : Type 0
 Ends = (u : Run) → NeverStuck (u .n) (u .c) (now u) × UnderWay (u .n) (u .first) (now u) (told u)
 

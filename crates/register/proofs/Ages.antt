@@ -42,7 +42,8 @@ again k = beside k ++ (step 0 ∷ read 0 ∷ replicate 4 (step 0))
 
 -- ---- altered areas
 
--- one reader, records of one word: it has a write number and one word left to copy; the writer has a phase and writes ended
+-- one reader, records of one word: it has a write number and one word left to copy; the writer has a phase, and writes
+-- ended
 abbrev altered : ℕ → ℕ → ℕ → List ℕ
 altered number phase ended =
     (1 ∷ 1 ∷ 1 ∷ 38 ∷ 8 ∷ 23 ∷ 30 ∷ 1 ∷ []) ++ (0 ∷ 0 ∷ 1 ∷ 0 ∷ 7 ∷ []) ++ replicate 10 0

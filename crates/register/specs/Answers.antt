@@ -21,7 +21,8 @@ pub record Shows (a : List ℕ) (r : ℕ) (default : Record) : Type 0 where
 
 pub record Answers : Type 0 where
   -- making ends no operation and has no age, accepted or not
-  pub makes : (form n c : ℕ) (v : Record) (a : List ℕ) → (made form n c v a .ended ≡ false) × (made form n c v a .age ≡ 0)
+  pub makes : (form n c : ℕ) (v : Record) (a : List ℕ)
+      → (made form n c v a .ended ≡ false) × (made form n c v a .age ≡ 0)
   -- any other answer than that to the step that ends a read has age 0
   pub ages : (a : List ℕ) (x : Move) → answered a x .ended && ltb (mover (word a 1) x) (word a 1) ≡ false
       → answered a x .age ≡ 0

@@ -62,8 +62,9 @@ finishes-requires c κs =
       still-sized (start .pre .0 .sized) (second .set-desk-field .kept .0 ∙ first .set-read-record .kept .0),
       start .pre .1,
       room-copied p r a (start .pre .0) (start .pre .1) (start .pre .2)
-          (copied p r a (memory-of p a) (slot .desk-field .ensures) (pos .desk-field2 .ensures) (len .desk-field3 .ensures)
-          (word .contents-word .ensures) (first .set-read-record .ensures) (second .set-desk-field .ensures)),
+          (copied p r a (memory-of p a) (slot .desk-field .ensures) (pos .desk-field2 .ensures)
+          (len .desk-field3 .ensures) (word .contents-word .ensures) (first .set-read-record .ensures)
+          (second .set-desk-field .ensures)),
     )
 
 same-length : tie.Need-same-length

@@ -15,7 +15,8 @@ add-result c =
     let phase = c .before in
     let ended = phase .before in
     let start = ended .before .before in
-    record { fits = one-more (ended .writer-field .ensures) (phase .writer-field2 .ensures) (c .if1 .taken) (start .pre .1) }
+    let room = one-more (ended .writer-field .ensures) (phase .writer-field2 .ensures) (c .if1 .taken) (start .pre .1) in
+    record { fits = room }
 
 returns : tie.Need-returns
 returns c = search asleep
