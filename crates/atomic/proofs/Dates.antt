@@ -1,6 +1,6 @@
 -- When writes were published and ended, and the age of each finished read.
 --     Ends                                all writes have ended, but the newest in phase 7
---     Aged                                a finished read with its age as the history has it
+--     AgedRead                            a finished read with its age as the history has it
 --     published-now                       writes published, as the writer's desk has it, is how many have been
 --     all-later                           how many are later than a number, where all were published before now
 --     Dated, keeps-dates                  all of it, and that every accepted move keeps it
@@ -33,7 +33,7 @@ pub data Ends (total now phase : ℕ) : List Write → Type 0 where
       → Ends total now phase (w ∷ writes)
 
 -- a read that ended before now, with its age as the history has it
-pub record Aged (now : ℕ) (writes : List Write) (x : Read) : Type 0 where
+pub record AgedRead (now : ℕ) (writes : List Write) (x : Read) : Type 0 where
   pub past : x .end < now
   pub own : x .gets .own ≡ true
   pub age : x .gets .age ≡ later-published (x .gets .number) (x .end) writes
@@ -112,11 +112,11 @@ all-past d (one-open e still past) = absurd (d e)
 
 -- a write that is published later changes no age
 ages-kept : (now : ℕ) (writes writes′ : List Write) (reads : List Read)
-    → ((k t : ℕ) → t < now → later-published k t writes′ ≡ later-published k t writes) → Each (Aged now writes) reads
-    → Each (Aged (suc now) writes′) reads
+    → ((k t : ℕ) → t < now → later-published k t writes′ ≡ later-published k t writes) → Each (AgedRead now writes) reads
+    → Each (AgedRead (suc now) writes′) reads
 ages-kept now writes writes′ reads same = each-follows one
   where
-    one : (x : Read) → Aged now writes x → Aged (suc now) writes′ x
+    one : (x : Read) → AgedRead now writes x → AgedRead (suc now) writes′ x
     one x b =
         record {
           past = omega (arith, b .past);
@@ -129,7 +129,7 @@ ages-kept now writes writes′ reads same = each-follows one
 pub record Dated (total : ℕ) (m : Memory) (h : History) : Type 0 where
   pub ends : Ends total (h .moves) (m writer-phase) (h .writes)
   pub times : Each (λ w. w .publication < h .moves) (h .writes)
-  pub ages : Each (Aged (h .moves) (h .writes)) (h .reads)
+  pub ages : Each (AgedRead (h .moves) (h .writes)) (h .reads)
 
 module _ (n : ℕ) (first : Record) (total : ℕ) {m : Memory} {h : History} (w : Told n first m h)
     (v : Dated total m h)
@@ -137,12 +137,12 @@ module _ (n : ℕ) (first : Record) (total : ℕ) {m : Memory} {h : History} (w 
   times-on : Each (λ w. w .publication < suc (h .moves)) (h .writes)
   times-on = each-follows (λ w b. omega arith) (v .times)
 
-  same-ages : Each (Aged (suc (h .moves)) (h .writes)) (h .reads)
+  same-ages : Each (AgedRead (suc (h .moves)) (h .writes)) (h .reads)
   same-ages = ages-kept (h .moves) (h .writes) (h .writes) (h .reads) (λ k j l. refl) (v .ages)
 
   -- a read that ends now with write number k
   one-age : (r k : ℕ) (u : Record)
-      → Each (Aged (suc (h .moves)) (h .writes)) (the-read total h r (got-now m k u) ∷ h .reads)
+      → Each (AgedRead (suc (h .moves)) (h .writes)) (the-read total h r (got-now m k u) ∷ h .reads)
   one-age r k u =
       also {x = the-read total h r (got-now m k u)}
       (record {
@@ -153,7 +153,7 @@ module _ (n : ℕ) (first : Record) (total : ℕ) {m : Memory} {h : History} (w 
 
   -- a move of a reader, with the reads that have ended by then
   reader-on : {m′ : Memory} (h′ : History) → h′ .moves ≡ suc (h .moves) → h′ .writes ≡ h .writes
-      → m′ writer-phase ≡ m writer-phase → Each (Aged (suc (h .moves)) (h .writes)) (h′ .reads) → Dated total m′ h′
+      → m′ writer-phase ≡ m writer-phase → Each (AgedRead (suc (h .moves)) (h .writes)) (h′ .reads) → Dated total m′ h′
   reader-on h′ em ew ep ages =
       record { ends = rw (em, ew, ep) (ends-later (v .ends)); times = rw (em, ew) times-on; ages = rw (em, ew) ages }
 
