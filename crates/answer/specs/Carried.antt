@@ -22,9 +22,9 @@ pub record Ready (p : Layout) (a : List ℕ) : Type 0 where
   pub sized : Sized p a
   pub sound : Whole (p .n) (p .c) (memory-of p a)
 
--- a word has room for one more write while the writer is in phase 7
-abbrev pub Room : Layout → List ℕ → Type 0
-Room p a = memory-of p a writer-phase ≡ 7 → memory-of p a writes-ended < most-writes
+-- in writer phase 7, writes ended plus 1 fits into a word: an undamaged area has this
+abbrev pub SumFits : Layout → List ℕ → Type 0
+SumFits p a = memory-of p a writer-phase ≡ 7 → memory-of p a writes-ended < most-writes
 
 -- a plan of process q carried out
 unfoldable pub carried : Layout → ℕ → List ℕ → Plan → Answer

@@ -1,4 +1,4 @@
--- The age of a read that ended, on any words: the writes published less its write number, and it fits into a word.
+-- The age of a read that ended, on any words: the writes published less its write number, and the sum fits into a word.
 --     ages                                the theorem
 -- Assumes nothing.
 use mathlib.Core.Path.{_≡_, sym, ap, ap₂, _∙_}
@@ -65,18 +65,16 @@ module _ (a : List ℕ) (r : ℕ) (l : r < word a 1) (o : Opened a (step r)) (e 
       go (yes seven) =
           let age : stepped a r .age ≡ writer a 6 + 1 - number = age-is ∙ rw (eq-eqb (writer a 0) 7 seven) in
           record {
-            asleep = λ s. less-is (writer a 6 + 1) number (stepped a r .age) age;
+            in-phase-7 = λ s. less-is (writer a 6 + 1) number (stepped a r .age) age;
             otherwise = λ d. absurd (d seven);
             sum-fits = room;
-            age-fits = λ h. omega (arith, room seven);
           }
       go (no d) =
           let age : stepped a r .age ≡ writer a 6 + 0 - number = age-is ∙ rw (ne-eqb (writer a 0) 7 d) in
           record {
-            asleep = λ s. absurd (d s);
+            in-phase-7 = λ s. absurd (d s);
             otherwise = λ s. less-is (writer a 6) number (stepped a r .age) (omega (arith, age));
             sum-fits = room;
-            age-fits = λ h. omega (arith, age);
           }
 
 pub ages : Ages

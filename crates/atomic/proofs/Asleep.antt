@@ -1,24 +1,28 @@
--- A run in which a read ends while the writer sleeps before its last step, computed from the definitions: its history,
--- and the age that the history gives each read. Assumes nothing.
+-- A run in which reads end while the writer sleeps before its last step, computed from the definitions: its history, the
+-- age that the history gives each read, and the one that document 01 gave it. Assumes nothing.
 use mathlib.Core.Path.{_≡_, refl}
-use mathlib.Core.Bool.{true}
+use mathlib.Core.Bool.{cond}
 use mathlib.Core.List.{List, [], _∷_, _++_, map}
-use Prim.Native.Nat.{ℕ}
+use Prim.Native.Nat.{ℕ, _+_, _-_}
+use lib.Dec.{ltb}
 use lib.ListN.{replicate}
 use Rattle.register.specs.Area.{is-area, slot-sound, desk-sound, writer-sound, undamaged}
 use Rattle.register.specs.Steps.{reader-step, writer-step, Move, read, step}
 use Rattle.register.specs.Calls.{made, carried-out, answered, is-own, shown}
 use Rattle.register.proofs.SmallRuns.{areaP1, written}
-use Rattle.atomic.specs.History.{Read, Write}
+use Rattle.atomic.specs.History.{Write}
 use Rattle.atomic.specs.Demands.{later-published, Run, told}
 use Rattle.atomic.proofs.InputA.{accepted-if}
 
--- the reader has taken the size of the starting record, 7; the write of 8 is published by move 10; the reader wakes up
--- and ends its read with move 11, reads again from move 12 to move 17, and the writer's last step is move 18
+-- write 1, of 8, comes up to phase 6 by move 6, and a read of the starting record, 7, ends there with move 10. The reader
+-- begins again and sleeps before its last word; move 14 publishes write 1; the reader wakes up and ends its read with
+-- move 15, in phase 7; move 16 ends the write. A read of 8 ends with move 22. The reader begins again and sleeps; move 32
+-- publishes write 2, of 9; that read of 8 ends with move 33, in phase 7, and the write has not ended
 abbrev moves-S : List Move
 moves-S =
-    (read 0 ∷ step 0 ∷ step 0 ∷ []) ++ written (8 ∷ []) 7
-    ++ (step 0 ∷ read 0 ∷ replicate 5 (step 0)) ++ (step 1 ∷ [])
+    written (8 ∷ []) 6 ++ (read 0 ∷ replicate 3 (step 0)) ++ (read 0 ∷ step 0 ∷ step 0 ∷ [])
+    ++ (step 1 ∷ step 0 ∷ step 1 ∷ [])
+    ++ (read 0 ∷ replicate 5 (step 0)) ++ (read 0 ∷ step 0 ∷ step 0 ∷ []) ++ written (9 ∷ []) 6 ++ (step 0 ∷ [])
 
 run-S : Run
 unfolding is-area slot-sound desk-sound writer-sound undamaged reader-step writer-step made carried-out answered
@@ -34,41 +38,35 @@ run-S =
       accepted = accepted-if (made 1 1 1 (7 ∷ []) areaP1 .area) moves-S tt;
     }
 
-abbrev write-S : Write
-write-S = record { begin = 3; publication = 10; end = 18; steps = 8; looks = 2; gives = 8 ∷ [] }
-
--- the old record, age 1, though the write ends after it
-abbrev woken-S : Read
-woken-S =
-    record {
-      reader = 0;
-      begin = 0;
-      end = 11;
-      steps = 3;
-      gets = record { age = 1; number = 0; own = true; shows = 7 ∷ [] };
-    }
-
--- the new record, age 0
-abbrev next-S : Read
-next-S =
-    record {
-      reader = 0;
-      begin = 12;
-      end = 17;
-      steps = 5;
-      gets = record { age = 0; number = 1; own = true; shows = 8 ∷ [] };
-    }
-
-reads-S : told run-S .reads ≡ next-S ∷ woken-S ∷ []
+-- begin, end, write number, age and record of each read, newest first
+reads-S : map (λ x. x .begin ∷ x .end ∷ x .gets .number ∷ x .gets .age ∷ x .gets .shows) (told run-S .reads)
+    ≡ (23 ∷ 33 ∷ 1 ∷ 1 ∷ 8 ∷ []) ∷ (17 ∷ 22 ∷ 1 ∷ 0 ∷ 8 ∷ []) ∷ (11 ∷ 15 ∷ 0 ∷ 1 ∷ 7 ∷ [])
+    ∷ (7 ∷ 10 ∷ 0 ∷ 0 ∷ 7 ∷ []) ∷ []
 unfolding run-S is-area slot-sound desk-sound writer-sound undamaged reader-step writer-step made carried-out answered
     is-own shown
 reads-S = refl
 
-writes-S : told run-S .writes ≡ write-S ∷ []
+-- begin, publication, end and record of each write, newest first; the newest has not ended, so its end is all moves
+writes-S : map (λ w. w .begin ∷ w .publication ∷ w .end ∷ w .gives) (told run-S .writes)
+    ≡ (26 ∷ 32 ∷ 34 ∷ 9 ∷ []) ∷ (0 ∷ 14 ∷ 16 ∷ 8 ∷ []) ∷ []
 unfolding run-S is-area slot-sound desk-sound writer-sound undamaged reader-step writer-step made carried-out answered
     is-own shown
 writes-S = refl
 
 -- how many writes later than its own were published before each read ended
-ages-S : map (λ x. later-published (x .gets .number) (x .end) (write-S ∷ [])) (next-S ∷ woken-S ∷ []) ≡ 0 ∷ 1 ∷ []
+ages-S : map (λ x. later-published (x .gets .number) (x .end) (told run-S .writes)) (told run-S .reads)
+    ≡ 1 ∷ 0 ∷ 1 ∷ 0 ∷ []
+unfolding run-S is-area slot-sound desk-sound writer-sound undamaged reader-step writer-step made carried-out answered
+    is-own shown
 ages-S = refl
+
+-- the rule of document 01, how many writes had ended by then, less its own number
+abbrev ended-before : ℕ → List Write → ℕ
+ended-before t [] = 0
+ended-before t (w ∷ l) = cond (ltb (w .end) t) 1 0 + ended-before t l
+
+old-ages-S : map (λ x. ended-before (x .end) (told run-S .writes) - x .gets .number) (told run-S .reads)
+    ≡ 0 ∷ 0 ∷ 0 ∷ 0 ∷ []
+unfolding run-S is-area slot-sound desk-sound writer-sound undamaged reader-step writer-step made carried-out answered
+    is-own shown
+old-ages-S = refl

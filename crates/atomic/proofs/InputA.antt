@@ -129,6 +129,7 @@ line-A =
       whole = keep swap;
       order = in-order rising;
       gives = from-start (from-write (to-read refl refl done));
+      numbered = refl;
     }
   where
     rising : Rising 0 (start (7 ∷ []) ∷ writing write-A ∷ reading read-A ∷ [])

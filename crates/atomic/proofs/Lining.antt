@@ -1,5 +1,6 @@
 -- A sound history can be put in one line: the line of `Inserting` turned round, so that the oldest stands first,
 -- with the starting record ahead of all. Assumes nothing.
+use mathlib.Core.Path.{_≡_, refl}
 use mathlib.Core.List.{List, [], _∷_, reverseAux, reverse}
 use Prim.Native.Nat.{ℕ, suc, _≤_, _<_, zero-le, suc-le-suc}
 use native.Mathlib.Nat.{le-refl, le-trans}
@@ -7,8 +8,9 @@ use native.Mathlib.Omega.{arith}
 use lib.ListN.{length}
 use Rattle.register.specs.Place.{Record}
 use Rattle.atomic.specs.History.{Write, History}
-use Rattle.atomic.specs.Line.{Operation, start, began, ended, Reordered, empty, keep, swap, twice}
-use Rattle.atomic.specs.Line.{At, here, behind, Gives, done, from-start, to-read, from-write, Line}
+use Rattle.atomic.specs.Line.{Operation, start, reading, writing, began, ended}
+use Rattle.atomic.specs.Line.{Reordered, empty, keep, swap, twice, At, here, behind}
+use Rattle.atomic.specs.Line.{Gives, done, from-start, to-read, from-write, writes-of, Line}
 use Rattle.atomic.proofs.Placed.{newest, Sound}
 use Rattle.atomic.proofs.Inserting.{Lined, nothing, with-read, with-write, same, all-put-in}
 
@@ -77,6 +79,13 @@ module _ {first : Record} {t : ℕ} where
   turned-gives (with-read moment a b c d n e rest) g = turned-gives rest (to-read n e g)
   turned-gives (with-write a b c rest) g = turned-gives rest (from-write g)
 
+  -- the writes of the line, turned round, are those of the history
+  turned-writes : {latest : ℕ} {all : List Write} {l : List Operation} → Lined first t latest all l
+      → (k : List Operation) → writes-of (reverseAux l k) ≡ reverseAux all (writes-of k)
+  turned-writes nothing k = refl
+  turned-writes (with-read {x = x} moment a b c d n e rest) k = turned-writes rest (reading x ∷ k)
+  turned-writes (with-write {w = w} a b c rest) k = turned-writes rest (writing w ∷ k)
+
 -- a sound history can be put in one line
 pub in-line : (first : Record) (h : History) → Sound first h → Line first h
 in-line first h s =
@@ -87,4 +96,5 @@ in-line first h s =
       whole = keep (twice (found .whole) (turned-whole (found .line)));
       order = in-order (ahead 0 (le-refl 0) (le-refl 0) (le-refl 0) (turned-rising (found .lined) no-more));
       gives = from-start (turned-gives (found .lined) done);
+      numbered = turned-writes (found .lined) [];
     }

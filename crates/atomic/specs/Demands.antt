@@ -47,8 +47,8 @@ module _ (u : Run) where
 
 -- ---- demand 3
 
--- how many writes of a list are later than write number k and were published before move t; the newest of a list has
--- the list's length for its number
+-- of a list of writes, newest first, how many have a number above k and were published before move t; the oldest is
+-- number 1
 abbrev pub later-published : ℕ → ℕ → List Write → ℕ
 later-published k t [] = 0
 later-published k t (w ∷ l) = cond (ltb k (suc (length l)) && ltb (w .publication) t) 1 0 + later-published k t l
@@ -158,15 +158,14 @@ pub record Less (x y z : ℕ) : Type 0 where
   pub less : y ≤ x → z + y ≡ x
   pub not-below : x ≤ y → z ≡ 0
 
--- the answer to a step of reader r that ended its read, from words 0 and 6 of the writer's desk (its phase, writes
--- ended) and from the read's write number
+-- a step of reader r ended its read. Word 0 of the writer's desk is the writer's phase, word 6 writes ended; word 4 of
+-- the reader's desk is the read's write number, which this step may just have stored
 pub record Aged (a : List ℕ) (r : ℕ) : Type 0 where
-  -- writes ended, plus 1 if the writer is in phase 7, less the read's write number, not below 0
-  pub asleep : writer a 0 ≡ 7 → Less (writer a 6 + 1) (desk (stepped a r .area) r 4) (stepped a r .age)
+  -- the age: writes ended, plus 1 if the writer is in phase 7, less the read's write number, not below 0
+  pub in-phase-7 : writer a 0 ≡ 7 → Less (writer a 6 + 1) (desk (stepped a r .area) r 4) (stepped a r .age)
   pub otherwise : writer a 0 ≢ 7 → Less (writer a 6) (desk (stepped a r .area) r 4) (stepped a r .age)
-  -- the sum and the age are no more than a word holds
+  -- the sum is no more than a word holds, so the age is not either
   pub sum-fits : writer a 0 ≡ 7 → writer a 6 + 1 ≤ 18446744073709551615
-  pub age-fits : writer a 6 ≤ 18446744073709551615 → stepped a r .age ≤ 18446744073709551615
 
 abbrev pub Ages : Type 0
 Ages = (a : List ℕ) (r : ℕ) → r < word a 1 → stepped a r .ended ≡ true → Aged a r

@@ -1,7 +1,7 @@
 -- What it is to stand in one line, in the customer's words. It knows histories, nothing of areas or steps.
 -- Assumes nothing.
 use mathlib.Core.Path.{_≡_}
-use mathlib.Core.List.{List, [], _∷_, _++_, map}
+use mathlib.Core.List.{List, [], _∷_, _++_, map, reverse}
 use Prim.Native.Nat.{ℕ, zero, suc, _<_}
 use Rattle.register.specs.Place.{Record}
 use Rattle.atomic.specs.History.{Read, Write, History}
@@ -49,6 +49,13 @@ pub data Gives : ℕ → Record → List Operation → Type 0 where
   from-write : {k : ℕ} {v : Record} {w : Write} {l : List Operation} → Gives (suc k) (w .gives) l
       → Gives k v (writing w ∷ l)
 
+-- the writes of a line, in its order
+abbrev pub writes-of : List Operation → List Write
+writes-of [] = []
+writes-of (start v ∷ l) = writes-of l
+writes-of (reading x ∷ l) = writes-of l
+writes-of (writing w ∷ l) = w ∷ writes-of l
+
 -- one line, oldest first
 pub record Line (first : Record) (h : History) : Type 0 where
   pub line : List Operation
@@ -60,3 +67,6 @@ pub record Line (first : Record) (h : History) : Type 0 where
   pub order : {x y : Operation} {i j : ℕ} → At x line i → At y line j → ended x < began y → i < j
   -- each read gives the whole record of the nearest write ahead of it
   pub gives : Gives 0 [] line
+  -- its writes stand in the order of the history, whose newest is the first of its list: a write's number, by which the
+  -- reads are said to give it, is its place among the publications
+  pub numbered : writes-of line ≡ reverse (h .writes)

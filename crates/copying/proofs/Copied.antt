@@ -26,7 +26,7 @@ use Rattle.register.proofs.Form1.{body-desk, body-read-record}
 use Rattle.area.specs.Words.{Sized, memory-of, words-after}
 use Rattle.area.specs.declared.Layout.{Layout}
 use Rattle.answer.specs.declared.Answer.{Answer as Returned}
-use Rattle.answer.specs.Carried.{whole, Ready, Room, carried}
+use Rattle.answer.specs.Carried.{whole, Ready, SumFits, carried}
 use Rattle.answer.proofs.Stored.{then, returned, plan-accepts, goes-on}
 
 -- the word that the reader copies
@@ -76,20 +76,20 @@ module _ (p : Layout) (r : ℕ) (a : List ℕ) (v : Ready p a) (h : r < p .n) wh
   before = memory-of p a
 
   room-behind : (l : List Store) {b : List ℕ} → b ≡ words-after p a l → AllHas (form1 (p .n) (p .c)) l
-      → apply before l writer-phase ≡ before writer-phase → apply before l writes-ended ≡ before writes-ended → Room p b
+      → apply before l writer-phase ≡ before writer-phase → apply before l writes-ended ≡ before writes-ended → SumFits p b
   room-behind l e has f g =
       subst (λ m. m writer-phase ≡ 7 → m writes-ended < most-writes)
       (sym (ap (memory-of p) e ∙ view-store (form1 (p .n) (p .c)) a l (v .sized .exact) has))
       (λ s. rw g (v .sound .writer .room (λ z. omega arith)))
 
-  pub room-taken : {b : List ℕ} → b ≡ words-after p a (takes before r) → Room p b
+  pub room-taken : {b : List ℕ} → b ≡ words-after p a (takes before r) → SumFits p b
   room-taken e =
       room-behind (takes before r) e
       (also (body-desk (p .n) (p .c) 3 r (omega arith) h .has)
       (also (body-desk (p .n) (p .c) 4 r (omega arith) h .has)
       (also (body-desk (p .n) (p .c) 2 r (omega arith) h .has) none))) refl refl
 
-  pub room-copied : {b : List ℕ} → before (phase r) ≡ 5 → b ≡ words-after p a (copies before r) → Room p b
+  pub room-copied : {b : List ℕ} → before (phase r) ≡ 5 → b ≡ words-after p a (copies before r) → SumFits p b
   room-copied s e =
       room-behind (copies before r) e
       (also (body-read-record (p .n) (p .c) r (before (pos r)) h (word-there v h s refl) .has)

@@ -11,7 +11,7 @@ ghost use Rattle.register.specs.Area.{phase};
 ghost use Rattle.register.specs.Steps.{accept, finishes, reader-4, reader-5};
 ghost use Rattle.register.specs.Calls.{published-writes, age-of};
 ghost use Rattle.area.specs.Words.{Sized, memory-of};
-ghost use Rattle.answer.specs.Carried.{whole, Ready, Room, carried};
+ghost use Rattle.answer.specs.Carried.{whole, Ready, SumFits, carried};
 
 // Step 4: take size and write number of slot last. A record of no words ends the read.
 pub fn takes(area: &mut [u64], p: Layout, r: usize) -> Answer
@@ -59,7 +59,7 @@ pub fn copies(area: &mut [u64], p: Layout, r: usize) -> Answer
 
 // The end of a read: finished becomes 1, phase 0. The answer has its age.
 fn finishes(area: &mut [u64], p: Layout, r: usize) -> Answer
-    requires { ⌜ Sized p (now area) × (r < p .n) × Room p (now area) ⌝ }
+    requires { ⌜ Sized p (now area) × (r < p .n) × SumFits p (now area) ⌝ }
     ensures { λ x. ⌜
         whole x (now (area .exit))
         ≡ carried p r (now (area .entry)) (accept (finishes r) true)
@@ -77,7 +77,7 @@ fn finishes(area: &mut [u64], p: Layout, r: usize) -> Answer
 
 // Writes published less the read's write number, not below 0.
 fn age_of(area: &[u64], p: Layout, r: usize) -> u64
-    requires { ⌜ Sized p (now area) × (r < p .n) × Room p (now area) ⌝ }
+    requires { ⌜ Sized p (now area) × (r < p .n) × SumFits p (now area) ⌝ }
     ensures { λ x. ⌜ x ≡ age-of (memory-of p (now (area .entry))) r ⌝ }
 {
     let newest = published_writes(area, p);
@@ -87,7 +87,7 @@ fn age_of(area: &[u64], p: Layout, r: usize) -> u64
 
 // The writes published by now: writes ended, plus 1 if the writer is in phase 7.
 fn published_writes(area: &[u64], p: Layout) -> u64
-    requires { ⌜ Sized p (now area) × Room p (now area) ⌝ }
+    requires { ⌜ Sized p (now area) × SumFits p (now area) ⌝ }
     ensures { λ x. ⌜ x ≡ published-writes (memory-of p (now (area .entry))) ⌝ }
 {
     let ended = fields::writer_field(area, p, Layout::WRITES_ENDED);

@@ -2,7 +2,7 @@
 pub mod SmallRuns
 mod Shortcuts
 mod Touches
-mod Ages
+mod AgeRuns
 pub mod Tests
 pub mod Places
 pub mod Tables

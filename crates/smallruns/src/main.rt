@@ -168,7 +168,7 @@ fn almost_read(area: &mut [u64]) {
     steps(area, 0, 2);
 }
 
-// That read ends when the writer has made k steps of a write, which takes eight: six, and it is in phase 6.
+// That read ends after k of a write's eight steps; for k from 2 to 7 the writer is then in phase k.
 fn ends_beside(k: u64) {
     let mut area = [5u64; 38];
     almost_read(&mut area);
@@ -197,7 +197,7 @@ fn ends_altered(number: u64, phase: u64, ended: u64) {
 }
 
 fn number_above() {
-    line(b"a write number above the writes published:");
+    line(b"a write number above the writes ended:");
     ends_altered(5, 0, 3);
     ends_altered(5, 7, 3);
     ends_altered(4, 7, 3);

@@ -4,9 +4,9 @@ use mathlib.Core.Path.{_≡_, refl}
 use mathlib.Core.List.{List, [], _∷_, _++_, map}
 use Prim.Native.Nat.{ℕ}
 use lib.ListN.{replicate}
-use Rattle.register.specs.Area.{writer-phase, writes-ended, memory}
+use Rattle.register.specs.Area.{writer-phase, writes-ended, most-writes, memory}
 use Rattle.register.specs.Area.{is-area, slot-sound, desk-sound, writer-sound, undamaged}
-use Rattle.register.specs.Steps.{reader-step, writer-step, Move, read, step}
+use Rattle.register.specs.Steps.{reader-step, writer-step, Move, read, write, step}
 use Rattle.register.specs.Calls.{fresh, carried-out, answered, after, is-own, shown}
 use Rattle.register.specs.Lists.{Each, none, also}
 use Rattle.register.proofs.SmallRuns.{Row, row-of, said, answer-to, areaP1, written}
@@ -36,6 +36,12 @@ age-at k = answer-to areaP1 (beside k) (step 0) .age
 abbrev empty-age-at : ℕ → ℕ
 empty-age-at k = answer-to (fresh 1 1 []) (beside-empty k) (step 0) .age
 
+-- reader 1 of two, one word of two copied, beside a write of two words: publication is its step 8
+abbrev second-age-at : ℕ → ℕ
+second-age-at k =
+    answer-to (fresh 2 2 (5 ∷ 6 ∷ []))
+    ((read 1 ∷ replicate 3 (step 1)) ++ (write (8 ∷ 9 ∷ []) ∷ replicate k (step 2))) (step 1) .age
+
 -- it reads again, from begin to end, with the writer still asleep
 abbrev again : ℕ → List Move
 again k = beside k ++ (step 0 ∷ read 0 ∷ replicate 4 (step 0))
@@ -53,10 +59,7 @@ altered number phase ended =
 abbrev last-step : List ℕ → List ℕ
 last-step a = said (answered a (step 0))
 
--- 2^64 − 1, the most that a word holds, and the number before it
-abbrev most : ℕ
-most = 18446744073709551615
-
+-- the number before the most that writes ended may be
 abbrev almost : ℕ
 almost = 18446744073709551614
 
@@ -67,25 +70,27 @@ rows =
     ∷ row-of (map ended-by (2 ∷ 3 ∷ 4 ∷ 5 ∷ 6 ∷ 7 ∷ 8 ∷ [])) (0 ∷ 0 ∷ 0 ∷ 0 ∷ 0 ∷ 0 ∷ 1 ∷ [])
     ∷ row-of (map age-at (2 ∷ 3 ∷ 4 ∷ 5 ∷ 6 ∷ 7 ∷ 8 ∷ [])) (0 ∷ 0 ∷ 0 ∷ 0 ∷ 0 ∷ 1 ∷ 1 ∷ [])
     ∷ row-of (map empty-age-at (2 ∷ 3 ∷ 4 ∷ 5 ∷ 6 ∷ 7 ∷ 8 ∷ [])) (0 ∷ 0 ∷ 0 ∷ 0 ∷ 0 ∷ 1 ∷ 1 ∷ [])
+    ∷ row-of (map second-age-at (7 ∷ 8 ∷ 9 ∷ [])) (0 ∷ 1 ∷ 1 ∷ [])
     -- whole, with its record; and the next read gets the new record, age 0, while the writer still sleeps
     ∷ row-of (said (answer-to areaP1 (beside 7) (step 0))) (0 ∷ 1 ∷ 1 ∷ 7 ∷ [])
     ∷ row-of (said (answer-to areaP1 (again 7) (step 0))) (0 ∷ 1 ∷ 0 ∷ 8 ∷ [])
-    -- a write number above the writes published: 0, never a wrap
+    -- a write number above the writes ended: 0, never a wrap
     ∷ row-of (last-step (altered 5 0 3)) (0 ∷ 1 ∷ 0 ∷ 7 ∷ [])
     ∷ row-of (last-step (altered 5 7 3)) (0 ∷ 1 ∷ 0 ∷ 7 ∷ [])
     ∷ row-of (last-step (altered 4 7 3)) (0 ∷ 1 ∷ 0 ∷ 7 ∷ [])
+    ∷ row-of (last-step (altered most-writes 0 0)) (0 ∷ 1 ∷ 0 ∷ 7 ∷ [])
+    -- and one that is not above
     ∷ row-of (last-step (altered 3 7 3)) (0 ∷ 1 ∷ 1 ∷ 7 ∷ [])
-    ∷ row-of (last-step (altered most 0 0)) (0 ∷ 1 ∷ 0 ∷ 7 ∷ [])
     -- writes ended 2^64 − 2 in phase 7: the sum is 2^64 − 1; one more would be damage
-    ∷ row-of (last-step (altered 0 7 almost)) (0 ∷ 1 ∷ most ∷ 7 ∷ [])
+    ∷ row-of (last-step (altered 0 7 almost)) (0 ∷ 1 ∷ most-writes ∷ 7 ∷ [])
     ∷ row-of (last-step (altered almost 7 almost)) (0 ∷ 1 ∷ 1 ∷ 7 ∷ [])
-    ∷ row-of (last-step (altered most 7 almost)) (0 ∷ 1 ∷ 0 ∷ 7 ∷ [])
-    ∷ row-of (last-step (altered 0 0 most)) (0 ∷ 1 ∷ most ∷ 7 ∷ [])
-    ∷ row-of (last-step (altered 0 7 most)) (2 ∷ 0 ∷ 0 ∷ [])
+    ∷ row-of (last-step (altered most-writes 7 almost)) (0 ∷ 1 ∷ 0 ∷ 7 ∷ [])
+    ∷ row-of (last-step (altered 0 0 most-writes)) (0 ∷ 1 ∷ most-writes ∷ 7 ∷ [])
+    ∷ row-of (last-step (altered 0 7 most-writes)) (2 ∷ 0 ∷ 0 ∷ [])
     ∷ []
 
-pub ages-hold : Each (λ x. x .given ≡ x .wanted) rows
+pub age-runs-hold : Each (λ x. x .given ≡ x .wanted) rows
 unfolding is-area slot-sound desk-sound writer-sound undamaged reader-step writer-step carried-out answered is-own shown
-ages-hold =
-    also refl (also refl (also refl (also refl (also refl (also refl (also refl (also refl
-    (also refl (also refl (also refl (also refl (also refl (also refl (also refl (also refl none)))))))))))))))
+age-runs-hold =
+    also refl (also refl (also refl (also refl (also refl (also refl (also refl (also refl (also refl
+    (also refl (also refl (also refl (also refl (also refl (also refl (also refl (also refl none))))))))))))))))
