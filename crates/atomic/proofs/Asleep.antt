@@ -46,27 +46,29 @@ unfolding run-S is-area slot-sound desk-sound writer-sound undamaged reader-step
     is-own shown
 reads-S = refl
 
--- begin, publication, end and record of each write, newest first; the newest has not ended, so its end is all moves
-writes-S : map (λ w. w .begin ∷ w .publication ∷ w .end ∷ w .gives) (told run-S .writes)
-    ≡ (26 ∷ 32 ∷ 34 ∷ 9 ∷ []) ∷ (0 ∷ 14 ∷ 16 ∷ 8 ∷ []) ∷ []
+-- its writes, newest first; the newest has not ended, so its end is all moves
+abbrev writes : List Write
+writes =
+    record { begin = 26; publication = 32; end = 34; steps = 6; looks = 1; gives = 9 ∷ [] }
+    ∷ record { begin = 0; publication = 14; end = 16; steps = 8; looks = 2; gives = 8 ∷ [] } ∷ []
+
+writes-S : told run-S .writes ≡ writes
 unfolding run-S is-area slot-sound desk-sound writer-sound undamaged reader-step writer-step made carried-out answered
     is-own shown
 writes-S = refl
 
--- how many writes later than its own were published before each read ended
-ages-S : map (λ x. later-published (x .gets .number) (x .end) (told run-S .writes)) (told run-S .reads)
+-- of each read, by its write number and its end, how many writes later than its own were published before it ended
+ages-S : later-published 1 33 writes ∷ later-published 1 22 writes ∷ later-published 0 15 writes
+    ∷ later-published 0 10 writes ∷ []
     ≡ 1 ∷ 0 ∷ 1 ∷ 0 ∷ []
-unfolding run-S is-area slot-sound desk-sound writer-sound undamaged reader-step writer-step made carried-out answered
-    is-own shown
 ages-S = refl
 
--- the rule of document 01, how many writes had ended by then, less its own number
+-- and by the rule of document 01: how many writes had ended by then, less its own number
 abbrev ended-before : ℕ → List Write → ℕ
 ended-before t [] = 0
 ended-before t (w ∷ l) = cond (ltb (w .end) t) 1 0 + ended-before t l
 
-old-ages-S : map (λ x. ended-before (x .end) (told run-S .writes) - x .gets .number) (told run-S .reads)
+old-ages-S : (ended-before 33 writes - 1) ∷ (ended-before 22 writes - 1) ∷ (ended-before 15 writes - 0)
+    ∷ (ended-before 10 writes - 0) ∷ []
     ≡ 0 ∷ 0 ∷ 0 ∷ 0 ∷ []
-unfolding run-S is-area slot-sound desk-sound writer-sound undamaged reader-step writer-step made carried-out answered
-    is-own shown
 old-ages-S = refl
