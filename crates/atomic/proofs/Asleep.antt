@@ -9,9 +9,9 @@ use Rattle.register.specs.Area.{is-area, slot-sound, desk-sound, writer-sound, 
 use Rattle.register.specs.Steps.{reader-step, writer-step, Move, read, step}
 use Rattle.register.specs.Calls.{made, carried-out, answered, is-own, shown}
 use Rattle.register.proofs.SmallRuns.{areaP1, written}
-use Rattle.atomic.specs.History.{Read, Write, History}
+use Rattle.atomic.specs.History.{Read, Write}
 use Rattle.atomic.specs.Demands.{later-published, Run, told}
-use Rattle.atomic.proofs.InputA.{accepted-if}
+use Rattle.atomic.proofs.InputA.{accepted-if, of-reads-and-writes}
 
 -- the reader takes the size and sleeps before its last word; move 10 publishes the write of 8; the reader wakes up and
 -- ends its read of the starting record, 7, with move 11, and the writer sleeps in phase 7
@@ -45,9 +45,6 @@ read-S =
 -- it has not ended, so its end is all moves
 abbrev write-S : Write
 write-S = record { begin = 3; publication = 10; end = 12; steps = 7; looks = 2; gives = 8 ∷ [] }
-
-abbrev of-reads-and-writes : History → List Read × List Write
-of-reads-and-writes h = (h .reads, h .writes)
 
 history-S : of-reads-and-writes (told run-S) ≡ (read-S ∷ [], write-S ∷ [])
 unfolding run-S is-area slot-sound desk-sound writer-sound undamaged reader-step writer-step made carried-out answered

@@ -10,7 +10,7 @@ use Rattle.register.specs.Area.{is-area, slot-sound, desk-sound, writer-sound, 
 use Rattle.register.specs.Steps.{reader-step, writer-step, Move, read, write, step, mover}
 use Rattle.register.specs.Calls.{Answer, made, carried-out, answered, is-own, shown}
 use Rattle.register.specs.Calls.{after}
-use Rattle.atomic.specs.History.{Accepted, none, then, Read, Write}
+use Rattle.atomic.specs.History.{Accepted, none, then, Read, Write, History}
 use Rattle.atomic.specs.Line.{start, reading, writing, keep, swap, here, Line}
 use Rattle.atomic.specs.Line.{done, from-start, to-read, from-write}
 use Rattle.atomic.specs.Demands.{Run, told}
@@ -108,15 +108,13 @@ read-A =
       gets = record { age = 0; number = 1; own = true; shows = 8 ∷ [] };
     }
 
-reads-A : told run-A .reads ≡ read-A ∷ []
-unfolding run-A is-area slot-sound desk-sound writer-sound undamaged reader-step writer-step made carried-out answered
-    is-own shown
-reads-A = refl
+abbrev pub of-reads-and-writes : History → List Read × List Write
+of-reads-and-writes h = (h .reads, h .writes)
 
-writes-A : told run-A .writes ≡ write-A ∷ []
+history-A : of-reads-and-writes (told run-A) ≡ (read-A ∷ [], write-A ∷ [])
 unfolding run-A is-area slot-sound desk-sound writer-sound undamaged reader-step writer-step made carried-out answered
     is-own shown
-writes-A = refl
+history-A = refl
 
 -- the starting record, the write, the read
 line-A : Line (7 ∷ []) (told run-A)

@@ -51,12 +51,21 @@ pub record Row : Type 0 where
 abbrev pub row-of : List ℕ → List ℕ → Row
 row-of x y = record { given = x; wanted = y }
 
-abbrev two-writes : List Move
-two-writes = written (8 ∷ []) 8 ++ written (9 ∷ []) 9
+-- P1's area after a whole write of 8, every word: the header, slots 0 to 2, the reader's desk, the writer's desk
+abbrev area8 : List ℕ
+area8 =
+    (1 ∷ 1 ∷ 1 ∷ 38 ∷ 8 ∷ 23 ∷ 30 ∷ 4294967296 ∷ [])
+    ++ (1 ∷ 0 ∷ 1 ∷ 0 ∷ 7 ∷ []) ++ (0 ∷ 0 ∷ 1 ∷ 1 ∷ 8 ∷ []) ++ (0 ∷ 0 ∷ 0 ∷ 0 ∷ 0 ∷ [])
+    ++ (0 ∷ 0 ∷ 0 ∷ 0 ∷ 0 ∷ 0 ∷ 0 ∷ []) ++ (0 ∷ 1 ∷ 1 ∷ 1 ∷ 1 ∷ 1 ∷ 1 ∷ 8 ∷ [])
 
--- the writer's phase on P1's area after some moves and so many steps of one more write
-abbrev writer-phase-after : List Move → ℕ → ℕ
-writer-phase-after l k = memory (after areaP1 (l ++ written (9 ∷ []) k)) writer-phase
+-- the writer's phase after each of some moves
+abbrev writer-phases : List ℕ → List Move → List ℕ
+writer-phases a [] = []
+writer-phases a (x ∷ l) = memory (answered a x .area) writer-phase ∷ writer-phases (answered a x .area) l
+
+-- an answer, and the current word that it leaves
+abbrev said-and-left : Answer → List ℕ
+said-and-left x = current-word (x .area) ∷ said x
 
 abbrev paused : List Move
 paused = (read 0 ∷ replicate 3 (step 0)) ++ written (3 ∷ 4 ∷ []) 9 ++ written (5 ∷ 6 ∷ []) 10
@@ -72,14 +81,12 @@ small-runs =
     ∷ row-of (current-word (after areaP1 (take 8 input-A)) ∷ current-word (after areaP1 (take 12 input-A)) ∷ [])
     (4294967296 ∷ 4294967297 ∷ [])
     -- P6
-    ∷ row-of (said (answer-to areaP1 (read 0 ∷ step 0 ∷ step 0 ∷ []) (step 0))) (0 ∷ 1 ∷ 0 ∷ 7 ∷ [])
-    ∷ row-of (current-word (after areaP1 (read 0 ∷ step 0 ∷ step 0 ∷ step 0 ∷ [])) ∷ []) (1 ∷ [])
-    -- P7: the writer's phase after its begin and so many steps: it looks in phase 1; then the slot of each write
-    ∷ row-of (map (writer-phase-after []) (0 ∷ 1 ∷ 2 ∷ [])) (1 ∷ 1 ∷ 2 ∷ [])
-    ∷ row-of (map (writer-phase-after (written (8 ∷ []) 8)) (0 ∷ 1 ∷ 2 ∷ 3 ∷ [])) (1 ∷ 1 ∷ 1 ∷ 2 ∷ [])
-    ∷ row-of (memory (after areaP1 (written (8 ∷ []) 8)) in-hand
-    ∷ memory (after areaP1 two-writes) in-hand ∷ [])
-    (1 ∷ 2 ∷ [])
+    ∷ row-of (said-and-left (answer-to areaP1 (read 0 ∷ step 0 ∷ step 0 ∷ []) (step 0))) (1 ∷ 0 ∷ 1 ∷ 0 ∷ 7 ∷ [])
+    -- P7: the writer's phase after its begin and each step: it looks in phase 1; then the slot of each write
+    ∷ row-of (writer-phases areaP1 (written (8 ∷ []) 2)) (1 ∷ 1 ∷ 2 ∷ [])
+    ∷ row-of (after areaP1 (written (8 ∷ []) 8)) area8
+    ∷ row-of (writer-phases area8 (written (9 ∷ []) 3)) (1 ∷ 1 ∷ 1 ∷ 2 ∷ [])
+    ∷ row-of (memory area8 in-hand ∷ memory (after area8 (written (9 ∷ []) 9)) in-hand ∷ []) (1 ∷ 2 ∷ [])
     -- P8
     ∷ row-of (said (answer-to areaP8 paused (step 0))) (0 ∷ 1 ∷ 2 ∷ 1 ∷ 2 ∷ [])
     -- P9
