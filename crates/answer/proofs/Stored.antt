@@ -43,7 +43,8 @@ pub store-append : (t : Table) (a : List ℕ) (k l : List Store) → store t (st
 store-append t a [] l = refl
 store-append t a (s ∷ k) l = store-append t (set a (address t (s .place)) (s .value)) k l
 
-pub then : (p : Layout) (a : List ℕ) (k l : List Store) {b d : List ℕ} → b ≡ words-after p a k → d ≡ words-after p b l
+pub then : (p : Layout) (a : List ℕ) (k l : List Store) {b d : List ℕ} → b ≡ words-after p a k
+    → d ≡ words-after p b l
     → d ≡ words-after p a (k ++ l)
 then p a k l e f = f ∙ ap (λ y. words-after p y l) e ∙ store-append (form1 (p .n) (p .c)) a k l
 
@@ -74,7 +75,8 @@ module _ (p : Layout) (q : ℕ) (a : List ℕ) (plan : Plan) where
       → whole x a ≡ carried p q a plan
   plan-refuses k e f = rw e (refuses p q a f)
 
-  pub plan-accepts : (l : List Store) {x : Returned} {b : List ℕ} → plan ≡ accept l false → x ≡ returned 0 false
+  pub plan-accepts : (l : List Store) {x : Returned} {b : List ℕ} → plan ≡ accept l false
+      → x ≡ returned 0 false
       → b ≡ words-after p a l → whole x b ≡ carried p q a plan
   plan-accepts l e f g = rw e (accepts p q a l g f)
 

@@ -49,7 +49,8 @@ closed-ended l e (all-ended d past) = absurd (d e)
 closed-ended {all-moves = all-moves} {now = now} l e (one-open {w = w} e′ still past) =
     rw (lt-ltb now all-moves l, le-ltb (w .end) all-moves (omega arith))
 
-ends-by : {now phase : ℕ} {writes : List Write} (all-moves : ℕ) → now ≡ all-moves → Ends all-moves now phase writes
+ends-by : {now phase : ℕ} {writes : List Write} (all-moves : ℕ) → now ≡ all-moves
+    → Ends all-moves now phase writes
     → Each (λ w. w .end ≤ all-moves) writes
 ends-by all-moves e (all-ended d past) = each-follows (λ w b. omega arith) past
 ends-by all-moves e (one-open {w = w} e′ still past) =

@@ -2,24 +2,23 @@
 --     Ends                                all writes have ended, but the newest in phase 7
 --     AgedRead                            a finished read with its age as the history has it
 --     published-now                       writes published, as the writer's desk has it, is how many have been
---     all-later                           how many are later than a number, where all were published before now
 --     Dated, keeps-dates                  all of it, and that every accepted move keeps it
 -- Assumes nothing.
 use mathlib.Core.Path.{_≡_, refl, sym, ap, _∙_}
 use mathlib.Core.Logic.{_≢_}
-use mathlib.Core.Bool.{Bool, true, false, cond, _&&_}
+use mathlib.Core.Bool.{true, false, cond}
 use mathlib.Core.List.{List, [], _∷_}
-use Prim.Native.Nat.{ℕ, suc, _+_, _-_, _≤_, _<_}
-use native.Mathlib.Decide.{ℕ-discrete, decLt}
+use Prim.Native.Nat.{ℕ, suc, _+_, _-_, _<_}
+use native.Mathlib.Decide.{ℕ-discrete}
 use native.Mathlib.Omega.{arith}
-use lib.Dec.{eqb, ltb}
-use lib.ListN.{length}
-use borrow.Author.Tests.{eq-eqb, ne-eqb, lt-ltb, le-ltb}
+use lib.Dec.{eqb}
+use borrow.Author.Tests.{eq-eqb, ne-eqb}
 use Rattle.register.specs.Place.{Record, Memory}
 use Rattle.register.specs.Area.{slot-write-number, last, desk-write-number, writer-phase}
 use Rattle.atomic.specs.History.{Event, Read, Write, History, closed, noted, the-read, the-write}
 use Rattle.register.specs.Lists.{Each, none, also}
 use Rattle.atomic.specs.Demands.{later-published}
+use Rattle.atomic.proofs.Counts.{all-later, not-counted, closed-counted}
 use Rattle.register.proofs.Tests.{each-follows}
 use Rattle.atomic.proofs.Moves
 use Rattle.atomic.proofs.Moves.{Does, got-now}
@@ -40,29 +39,6 @@ pub record AgedRead (now : ℕ) (writes : List Write) (x : Read) : Type 0 where
 
 -- ---- how many have been published
 
--- one write counts if it is later and was published, and not otherwise
-counts : {later published : Bool} (x : ℕ) → later ≡ true → published ≡ true → cond (later && published) 1 0 + x ≡ suc x
-counts x e f = rw (e, f) (omega arith)
-
-counts-not : (later published : Bool) (x : ℕ) → later && published ≡ false → cond (later && published) 1 0 + x ≡ x
-counts-not later published x e = rw e (omega arith)
-
--- where all writes were published before now, those later than number k are all but the first k
-all-later : (k now : ℕ) (writes : List Write) → Each (λ w. w .publication < now) writes
-    → later-published k now writes ≡ length writes - k
-all-later k now [] none = omega arith
-all-later k now (w ∷ writes) (also b rest) = go (all-later k now writes rest) (decLt k (suc (length writes)))
-  where
-    go : later-published k now writes ≡ length writes - k → Dec (k < suc (length writes))
-        → later-published k now (w ∷ writes) ≡ suc (length writes) - k
-    go e (yes l) =
-        counts (later-published k now writes) (lt-ltb k (suc (length writes)) l) (lt-ltb (w .publication) now b)
-        ∙ omega (arith, e)
-    go e (no d) =
-        counts-not (ltb k (suc (length writes))) (ltb (w .publication) now) (later-published k now writes)
-        (ap (λ q. q && ltb (w .publication) now) (le-ltb k (suc (length writes)) (omega arith)))
-        ∙ omega (arith, e)
-
 -- writes published, as the writer's desk has it
 published-now : {k phase len pos ended size number : ℕ} {given : Record} {mine words : ℕ → ℕ}
     → Writing 7 given k phase len pos ended mine size number words → ended + cond (eqb phase 7) 1 0 ≡ k
@@ -72,23 +48,7 @@ published-now {k = k} {phase = phase} {ended = ended} v = go (ℕ-discrete phase
     go (yes e) = rw (eq-eqb phase 7 e) (omega (arith, v .published e))
     go (no d) = rw (ne-eqb phase 7 d) (omega (arith, v .counted d))
 
--- a write that is published at t or later is not counted before t
-not-counted : (k t : ℕ) (w : Write) (writes : List Write) → t ≤ w .publication
-    → later-published k t (w ∷ writes) ≡ later-published k t writes
-not-counted k t w writes l =
-    counts-not (ltb k (suc (length writes))) (ltb (w .publication) t) (later-published k t writes)
-    (ap (λ q. ltb k (suc (length writes)) && q) (le-ltb (w .publication) t l) ∙ and-false (ltb k (suc (length writes))))
-  where
-    and-false : (b : Bool) → b && false ≡ false
-    and-false true = refl
-    and-false false = refl
-
 -- the end of a write moves no publication
-closed-counted : (k t now steps : ℕ) (writes : List Write)
-    → later-published k t (closed now steps writes) ≡ later-published k t writes
-closed-counted k t now steps [] = refl
-closed-counted k t now steps (w ∷ writes) = refl
-
 times-closed : (t now steps : ℕ) (writes : List Write) → Each (λ w. w .publication < t) writes
     → Each (λ w. w .publication < t) (closed now steps writes)
 times-closed t now steps [] none = none
@@ -112,7 +72,8 @@ all-past d (one-open e still past) = absurd (d e)
 
 -- a write that is published later changes no age
 ages-kept : (now : ℕ) (writes writes′ : List Write) (reads : List Read)
-    → ((k t : ℕ) → t < now → later-published k t writes′ ≡ later-published k t writes) → Each (AgedRead now writes) reads
+    → ((k t : ℕ) → t < now → later-published k t writes′ ≡ later-published k t writes)
+    → Each (AgedRead now writes) reads
     → Each (AgedRead (suc now) writes′) reads
 ages-kept now writes writes′ reads same = each-follows one
   where
@@ -153,7 +114,8 @@ module _ (n : ℕ) (first : Record) (total : ℕ) {m : Memory} {h : History} (w 
 
   -- a move of a reader, with the reads that have ended by then
   reader-on : {m′ : Memory} (h′ : History) → h′ .moves ≡ suc (h .moves) → h′ .writes ≡ h .writes
-      → m′ writer-phase ≡ m writer-phase → Each (AgedRead (suc (h .moves)) (h .writes)) (h′ .reads) → Dated total m′ h′
+      → m′ writer-phase ≡ m writer-phase → Each (AgedRead (suc (h .moves)) (h .writes)) (h′ .reads)
+      → Dated total m′ h′
   reader-on h′ em ew ep ages =
       record { ends = rw (em, ew, ep) (ends-later (v .ends)); times = rw (em, ew) times-on; ages = rw (em, ew) ages }
 
@@ -167,7 +129,8 @@ module _ (n : ℕ) (first : Record) (total : ℕ) {m : Memory} {h : History} (w 
         ages = rw (em, ew, er) same-ages;
       }
 
-  closing : {now : ℕ} {writes : List Write} (k : ℕ) → m writer-phase ≡ 7 → Ends total now (m writer-phase) writes
+  closing : {now : ℕ} {writes : List Write} (k : ℕ) → m writer-phase ≡ 7
+      → Ends total now (m writer-phase) writes
       → Ends total (suc now) 0 (closed now k writes)
   closing k e (all-ended d past) = absurd (d e)
   closing {now = now} k e (one-open {writes = writes} e′ still past) =

@@ -46,7 +46,8 @@ module _ {n c : ℕ} {first : Record} {all-moves : ℕ} {a : List ℕ} {h : Hist
       record {
         reads = λ r.
             plan-number a (read r) (g .area) (g .sound)
-            ∙ ap (λ j. number-of (read-begins j (memory a) r)) (g .its-readers) ∙ read-begin-number n c (memory a) r;
+            ∙ ap (λ j. number-of (read-begins j (memory a) r)) (g .its-readers)
+            ∙ read-begin-number n c (memory a) r;
         writes = λ v.
             plan-number a (write v) (g .area) (g .sound)
             ∙ ap (λ k. number-of (write-begins (readers a) (memory a) k v)) (g .its-capacity)
@@ -69,14 +70,16 @@ module _ {n c : ℕ} {first : Record} {all-moves : ℕ} {a : List ℕ} {h : Hist
       (memory a (slot-write-number (memory a (last r)))) (h .writes)
   bound-where r l e = g .told .reader r l .bound (omega arith)
 
-  its-number : (r : ℕ) → r < n → memory a (phase r) ≡ 5 → memory a (desk-write-number r) ≤ length (h .writes)
+  its-number : (r : ℕ) → r < n → memory a (phase r) ≡ 5
+      → memory a (desk-write-number r) ≤ length (h .writes)
   its-number r l e = omega (arith, g .told .reader r l .copied e .1, bound-where r l e .number)
 
   its-length : (r : ℕ) → r < n → memory a (phase r) ≡ 5
       → memory a (len r) ≡ length (record-of first (h .writes) (memory a (desk-write-number r)))
   its-length r l e =
       let (len-is, number-is, part, copied) = g .told .reader r l .copied e in
-      len-is ∙ sym (row-length (memory a (size (memory a (last r)))) (λ j. memory a (contents (memory a (last r)) j)))
+      len-is
+      ∙ sym (row-length (memory a (size (memory a (last r)))) (λ j. memory a (contents (memory a (last r)) j)))
       ∙ ap length (where-numbered (bound-where r l e))
       ∙ ap (λ k. length (record-of first (h .writes) k)) (sym number-is)
 

@@ -1,7 +1,7 @@
 -- Input A of document 01, computed from the definitions: what is printed, the history, the line and the counts. So the
 -- promises speak of something. Assumes nothing.
 use mathlib.Core.Path.{_≡_, refl}
-use mathlib.Core.Bool.{Bool, true, false, cond, _&&_}
+use mathlib.Core.Bool.{Bool, true, cond, _&&_}
 use mathlib.Core.List.{List, [], _∷_}
 use Prim.Native.Nat.{ℕ, suc}
 use lib.Dec.{T, ltb, eqb, eqb→eq, lit≤}
@@ -16,13 +16,9 @@ use Rattle.atomic.specs.Line.{done, from-start, to-read, from-write}
 use Rattle.atomic.specs.Demands.{Run, told}
 use Rattle.register.proofs.Tests.{both}
 use Rattle.atomic.proofs.Lining.{Rising, no-more, next, in-order}
-use Rattle.register.proofs.SmallRuns.{areaP1, input-A, current-word}
+use Rattle.register.proofs.SmallRuns.{flag, areaP1, input-A, current-word}
 
 -- ---- what is printed
-
-abbrev flag : Bool → ℕ
-flag true = 1
-flag false = 0
 
 -- 0 for B, 1 for S
 abbrev kind : Move → ℕ

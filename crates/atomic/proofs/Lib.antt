@@ -1,4 +1,5 @@
 -- The proofs, from the ground up. Assumes nothing.
+mod Counts
 pub mod Sums
 mod Balance
 pub mod Moves

@@ -36,7 +36,8 @@ module _ (a : List ℕ) where
     a-write-begin : (v : Record) → Tells (write v) (by (readers a) (write-began v))
     another-step : (p k : ℕ) → Tested p false false false false → Tells (step p) (by p (went-on k))
     a-look : (p : ℕ) → p ≡ readers a → Tested p false true false false → Tells (step p) (by p looked)
-    a-publication : (p : ℕ) → p ≡ readers a → Tested p false false true false → Tells (step p) (by p (published false))
+    a-publication : (p : ℕ) → p ≡ readers a → Tested p false false true false
+        → Tells (step p) (by p (published false))
     a-read-end : (p : ℕ) → Tested p true false false false
         → Tells (step p) (by p (read-ended (got p (stepped a p))))
     a-write-end : (p : ℕ) → p ≡ readers a → memory a writer-phase ≡ 7 → Tested p false false false true

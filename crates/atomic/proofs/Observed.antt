@@ -99,7 +99,8 @@ module _ (a : List ℕ) (p : ℕ) (o : Opened a (step p)) where
   same-ended = ap (λ r. r .ended) (o .answers)
 
   module _ (l : p < readers a) (e : o .ends ≡ true) where
-    reader-rests : (m′ (phase p) ≡ 0) × (m′ (finished p) ≡ 1) × (published-writes m′ ≡ published-writes (memory a))
+    reader-rests : (m′ (phase p) ≡ 0) × (m′ (finished p) ≡ 1)
+        × (published-writes m′ ≡ published-writes (memory a))
     reader-rests =
         let deed : seen (readers a) (memory a) (step p) (o .ends) m′ ≡ read-ended (seen-got m′ p) =
         rw (lt-ltb p (readers a) l, e) in

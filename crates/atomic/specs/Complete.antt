@@ -85,7 +85,8 @@ handed [] = []
 handed (m ∷ past) = handed-by (m .move) (handed past)
 
 -- the moves that pass a test, each told with the moves before it, newest first
-abbrev pub told-of : {A : Type 0} → (List ℕ → Move → Bool) → (List ℕ → Move → List Moment → A) → List Moment → List A
+abbrev pub told-of : {A : Type 0} → (List ℕ → Move → Bool) → (List ℕ → Move → List Moment → A)
+    → List Moment → List A
 told-of test tell [] = []
 told-of test tell (m ∷ past) =
     cond (test (m .area) (m .move)) (tell (m .area) (m .move) past ∷ told-of test tell past) (told-of test tell past)

@@ -103,7 +103,8 @@ pub record UnderWay (n : ℕ) (first : Record) (a : List ℕ) (h : History) : Ty
   -- a read that has not yet learnt its length
   pub early-reads : (r : ℕ) → r < n → memory a (phase r) ≢ 0 → memory a (phase r) ≢ 5 → h .steps r < 4
   -- a read of L words: L is the length of the record of the write whose number stands in the desk
-  pub read-number : (r : ℕ) → r < n → memory a (phase r) ≡ 5 → memory a (desk-write-number r) ≤ length (h .writes)
+  pub read-number : (r : ℕ) → r < n → memory a (phase r) ≡ 5
+      → memory a (desk-write-number r) ≤ length (h .writes)
   pub read-length : (r : ℕ) → r < n → memory a (phase r) ≡ 5
       → memory a (len r) ≡ length (record-of first (h .writes) (memory a (desk-write-number r)))
   pub reads : (r : ℕ) → r < n → memory a (phase r) ≡ 5 → h .steps r < memory a (len r) + 4

@@ -60,7 +60,8 @@ course-of : {s s′ : State} {t t′ : Tally} (p p′ : _) → s ≡ s′ → p 
     (record { state = s′; text = p′; tally = t′ })
 course-of p p′ e f g = rw (e, f, g)
 
-module _ (b : List ℕ) (i : ℕ) (a out a′ out′ : List ℕ) (g r : Progress) (n : ℕ) (w : CodeWritten) (m : CodeAsked)
+module _ (b : List ℕ) (i : ℕ) (a out a′ out′ : List ℕ) (g r : Progress) (n : ℕ)
+    (w : CodeWritten) (m : CodeAsked)
     (the-n : n ≡ readers b) (the-move : as-written w ≡ written b i)
     (decoding : as-asked m ≡ asked n (as-written w)) where
   -- the line of what the move came to is put, and the move counted

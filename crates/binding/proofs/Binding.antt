@@ -21,14 +21,16 @@ use Rattle.answer.proofs.Stored.{then, returned, plan-refuses, plan-accepts}
 module _ (p : Layout) (r : ℕ) (a : List ℕ) (m : Memory) where
   -- ---- step 1
 
-  pub stays : {w i l f : ℕ} {x : Returned} {b : List ℕ} → w ≡ m current → l ≡ m (last r) → i ≡ index w → i ≡ l
+  pub stays : {w i l f : ℕ} {x : Returned} {b : List ℕ} → w ≡ m current → l ≡ m (last r) → i ≡ index w
+      → i ≡ l
       → f ≡ 4 → x ≡ returned 0 false → b ≡ words-after p a (sets-phase r f)
       → whole x b ≡ carried p r a (reader-1 (p .n) m r)
   stays {i = i} {l = l} {f = f} word-is last-is index-is same phase-is =
       plan-accepts p r a (reader-1 (p .n) m r) (sets-phase r f)
       (rw (← word-is, ← last-is, ← index-is, phase-is, eq-eqb i l same))
 
-  pub leaves : {w i l f : ℕ} {x : Returned} {b : List ℕ} → w ≡ m current → l ≡ m (last r) → i ≡ index w → i ≢ l
+  pub leaves : {w i l f : ℕ} {x : Returned} {b : List ℕ} → w ≡ m current → l ≡ m (last r)
+      → i ≡ index w → i ≢ l
       → f ≡ 2 → x ≡ returned 0 false → b ≡ words-after p a (sets-phase r f)
       → whole x b ≡ carried p r a (reader-1 (p .n) m r)
   leaves {i = i} {l = l} {f = f} word-is last-is index-is other phase-is =
@@ -52,7 +54,8 @@ module _ (p : Layout) (r : ℕ) (a : List ℕ) (m : Memory) where
 
   -- ---- step 3
 
-  pub all-counted : {w k : ℕ} {x : Returned} → w ≡ m current → k ≡ counter w → p .n ≤ k → x ≡ returned 2 false
+  pub all-counted : {w k : ℕ} {x : Returned} → w ≡ m current → k ≡ counter w → p .n ≤ k
+      → x ≡ returned 2 false
       → whole x a ≡ carried p r a (reader-3 (p .n) m r)
   all-counted {k = k} word-is count-is full =
       plan-refuses p r a (reader-3 (p .n) m r) 2 (rw (← word-is, ← count-is, le-ltb k (p .n) full))
@@ -65,4 +68,5 @@ module _ (p : Layout) (r : ℕ) (a : List ℕ) (m : Memory) where
       let stores = current ≔ (w + 1) ∷ last r ≔ i ∷ [] in
       plan-accepts p r a (reader-3 (p .n) m r) (stores ++ sets-phase r 4)
       (rw (← word-is, ← count-is, lt-ltb k (p .n) room, index-is, add-one w)) answer
-      (then p a stores (sets-phase r 4) (then p a (current ≔ (w + 1) ∷ []) (last r ≔ i ∷ []) first second) third)
+      (then p a stores (sets-phase r 4)
+      (then p a (current ≔ (w + 1) ∷ []) (last r ≔ i ∷ []) first second) third)

@@ -19,7 +19,8 @@ use Rattle.board_c.specs.Sizes.{words-of}
 use Rattle.board_c.specs.Promises.{WordsAreMade}
 
 -- the form is not known, or N or C is out of range
-pub words-none : (form n c : ℕ) {k r : Bool} → k ≡ known-form form → r ≡ in-range n c → not (k && r) ≡ true
+pub words-none : (form n c : ℕ) {k r : Bool} → k ≡ known-form form → r ≡ in-range n c
+    → not (k && r) ≡ true
     → 0 ≡ words-of form n c
 unfolding words-of
 words-none form n c f g h = rw (not-taken form n c f g h)

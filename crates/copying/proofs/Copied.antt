@@ -50,7 +50,8 @@ module _ {ended phase last writer : ℕ} (e : ended ≡ last) (f : phase ≡ wri
 -- ---- the end of a read: what it stores does not bear on the age
 
 pub ended : (p : Layout) (r : ℕ) (a : List ℕ) {age : ℕ} {b d : List ℕ} → Sized p a → r < p .n
-    → age ≡ age-of (memory-of p a) r → b ≡ words-after p a (finished r ≔ 1 ∷ []) → d ≡ words-after p b (sets-phase r 0)
+    → age ≡ age-of (memory-of p a) r → b ≡ words-after p a (finished r ≔ 1 ∷ [])
+    → d ≡ words-after p b (sets-phase r 0)
     → whole (record { number = 0; ended = true; age = age }) d ≡ carried p r a (accept (finishes r) true)
 unfolding carried
 ended p r a s h e f g =
@@ -76,7 +77,8 @@ module _ (p : Layout) (r : ℕ) (a : List ℕ) (v : Ready p a) (h : r < p .n) wh
   before = memory-of p a
 
   room-behind : (l : List Store) {b : List ℕ} → b ≡ words-after p a l → AllHas (form1 (p .n) (p .c)) l
-      → apply before l writer-phase ≡ before writer-phase → apply before l writes-ended ≡ before writes-ended → SumFits p b
+      → apply before l writer-phase ≡ before writer-phase → apply before l writes-ended ≡ before writes-ended
+      → SumFits p b
   room-behind l e has f g =
       subst (λ m. m writer-phase ≡ 7 → m writes-ended < most-writes)
       (sym (ap (memory-of p) e ∙ view-store (form1 (p .n) (p .c)) a l (v .sized .exact) has))
@@ -89,7 +91,8 @@ module _ (p : Layout) (r : ℕ) (a : List ℕ) (v : Ready p a) (h : r < p .n) wh
       (also (body-desk (p .n) (p .c) 4 r (omega arith) h .has)
       (also (body-desk (p .n) (p .c) 2 r (omega arith) h .has) none))) refl refl
 
-  pub room-copied : {b : List ℕ} → before (phase r) ≡ 5 → b ≡ words-after p a (copies before r) → SumFits p b
+  pub room-copied : {b : List ℕ} → before (phase r) ≡ 5 → b ≡ words-after p a (copies before r)
+      → SumFits p b
   room-copied s e =
       room-behind (copies before r) e
       (also (body-read-record (p .n) (p .c) r (before (pos r)) h (word-there v h s refl) .has)

@@ -36,7 +36,8 @@ malformed-or-not n w =
     no-length l d (length-of-step x y) = y l
     no-length l d (length-of-read x y z) = z l
 
-    go : Dec (w .kind ≡ 0) → Dec (w .kind ≡ 1) → Dec (w .process ≡ n) → Dec (w .len ≡ 0) → Dec (Malformed n w)
+    go : Dec (w .kind ≡ 0) → Dec (w .kind ≡ 1) → Dec (w .process ≡ n) → Dec (w .len ≡ 0)
+        → Dec (Malformed n w)
     go (no e) (no f) p l = yes (another-kind e f)
     go (no e) (yes f) p (no l) = yes (length-of-step f l)
     go (no e) (yes f) p (yes l) = no (no-length l (λ x y. y f))
@@ -89,7 +90,8 @@ module _ (b : List ℕ) (s : State) (w : Written) (k : ℕ) where
       go : Dec (Malformed (readers b) w)
           → (answer-of b s (asked (readers b) w) .number ≡ k) ↔ Given (move-rows b s w) k
       go (yes m) =
-          subst (λ y. (answer-of b s y .number ≡ k) ↔ Given (move-rows b s w) k) (sym (asks-nothing (readers b) w m))
+          subst (λ y. (answer-of b s y .number ≡ k) ↔ Given (move-rows b s w) k)
+          (sym (asks-nothing (readers b) w m))
           (holds m)
       go (no d) =
           subst (λ y. (answer-of b s y .number ≡ k) ↔ Given (move-rows b s w) k) (sym (asks-for (readers b) w d))

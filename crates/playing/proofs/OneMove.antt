@@ -95,7 +95,8 @@ module _ (b a : List ℕ) (used len : ℕ) (x : Played) (r : Returned) where
   write-13 h e d = told x r used a {v = used + 0} d (ap (λ z. whole z a) e) (omega arith) ∙ sym (rw h)
 
   -- the next values are written; accepted, they are used up
-  pub write-called : (a′ l : List ℕ) (k u : ℕ) → leb (used + len) (values b) ≡ true → k ≡ min len one-too-many
+  pub write-called : (a′ l : List ℕ) (k u : ℕ) → leb (used + len) (values b) ≡ true
+      → k ≡ min len one-too-many
       → l ≡ pasted (replicate one-too-many 0) 0 (words-at k b (place b used))
       → whole r a′ ≡ answered a (write (take k l))
       → u ≡ used + cond (eqb (r .number) 0) len 0 → x ≡ tell r u

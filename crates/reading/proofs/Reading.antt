@@ -60,4 +60,5 @@ module _ (p : Layout) (r : ℕ) (a : List ℕ) (m : Memory) where
   pub past-phases : {f : ℕ} {x : Returned} → f ≡ m (phase r) → 6 ≤ f → x ≡ returned 2 false
       → whole x a ≡ carried p r a (reader-step (p .n) m r)
   unfolding reader-step
-  past-phases e h = plan-refuses p r a (reader-step (p .n) m r) 2 (rw (← e) (List·getD-eq-default plans (refuse 2) h))
+  past-phases e h =
+      plan-refuses p r a (reader-step (p .n) m r) 2 (rw (← e) (List·getD-eq-default plans (refuse 2) h))

@@ -7,7 +7,7 @@ use lib.ListN.{replicate}
 use Rattle.register.specs.Area.{writes-ended, most-writes, memory}
 use Rattle.register.specs.Area.{is-area, slot-sound, desk-sound, writer-sound, undamaged}
 use Rattle.register.specs.Steps.{reader-step, writer-step, Move, read, step}
-use Rattle.register.specs.Calls.{Answer, carried-out, answered, after, is-own, shown}
+use Rattle.register.specs.Calls.{carried-out, answered, after, is-own, shown}
 use Rattle.register.specs.Lists.{Each, none, also}
 use Rattle.register.proofs.SmallRuns.{Row, row-of, said, answer-to, areaP1, written}
 
@@ -34,8 +34,9 @@ then-read l = said (answer-to in-phase-6 l (step 0))
 -- two readers, records of two words: what reader 1's slot and desk begin with, the writer's phase and writes ended
 abbrev altered : List ℕ → List ℕ → ℕ → ℕ → List ℕ
 altered slot desk phase ended =
-    (1 ∷ 2 ∷ 2 ∷ 57 ∷ 8 ∷ 32 ∷ 48 ∷ 2 ∷ []) ++ slot ++ (5 ∷ 6 ∷ []) ++ replicate 18 0 ++ replicate 8 0
-    ++ desk ++ (0 ∷ 0 ∷ 0 ∷ []) ++ (phase ∷ 0 ∷ 1 ∷ 0 ∷ 2 ∷ 0 ∷ ended ∷ 0 ∷ 0 ∷ [])
+    (1 ∷ 2 ∷ 2 ∷ 57 ∷ 8 ∷ 32 ∷ 48 ∷ 2 ∷ []) ++ slot ++ (5 ∷ 6 ∷ []) ++ replicate 18 0
+    ++ replicate 8 0 ++ desk ++ (0 ∷ 0 ∷ 0 ∷ [])
+    ++ (phase ∷ 0 ∷ 1 ∷ 0 ∷ 2 ∷ 0 ∷ ended ∷ 0 ∷ 0 ∷ [])
 
 -- reader 1 has one word of two left to copy, and its read this write number; the slot's own has changed since
 abbrev last-word : ℕ → ℕ → ℕ → List ℕ
@@ -67,7 +68,8 @@ rows =
     -- the next read gets the new record, age 0, while the writer still sleeps
     ∷ row-of (then-read (step 1 ∷ step 0 ∷ read 0 ∷ replicate 4 (step 0))) (0 ∷ 1 ∷ 0 ∷ 8 ∷ [])
     -- the writer in each phase
-    ∷ row-of (map (λ p. answered (last-word 1 p 3) (step 1) .age) phases) (2 ∷ 2 ∷ 2 ∷ 2 ∷ 2 ∷ 2 ∷ 2 ∷ 3 ∷ [])
+    ∷ row-of (map (λ p. answered (last-word 1 p 3) (step 1) .age) phases)
+    (2 ∷ 2 ∷ 2 ∷ 2 ∷ 2 ∷ 2 ∷ 2 ∷ 3 ∷ [])
     ∷ row-of (map (λ p. answered (no-words 1 p 3) (step 1) .age) (6 ∷ 7 ∷ [])) (2 ∷ 3 ∷ [])
     -- a write number above the writes ended: 0, never a wrap
     ∷ row-of (ends (last-word 5 0 3)) (0 ∷ 0 ∷ [])

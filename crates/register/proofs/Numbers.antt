@@ -40,7 +40,8 @@ module _ (form n c : ℕ) (v : Record) (a : List ℕ) where
   unfit : Says (known-form form && in-range n c) ((form ≢ 1) ⊎ (¬ InRange n c))
   unfit = (λ e. go (known-form form) (in-range n c) refl refl e, fits)
     where
-      go : (x y : Bool) → known-form form ≡ x → in-range n c ≡ y → x && y ≡ false → (form ≢ 1) ⊎ (¬ InRange n c)
+      go : (x y : Bool) → known-form form ≡ x → in-range n c ≡ y → x && y ≡ false
+          → (form ≢ 1) ⊎ (¬ InRange n c)
       go true true d e f = absurd (true≢false f)
       go true false d e f = inr (λ r. true≢false (sym (range-is n c .1 r) ∙ e))
       go false y d e f = inl (eqb-false form 1 d)
@@ -85,7 +86,8 @@ tested a x {l} {k} rest = go (is-area a) refl (undamaged a) refl
     go true e true f =
         passes (unless-not (is-area a) (area-is a) .1 e)
         (passes (unless-not (undamaged a) (undamaged-is a) .1 f)
-        (subst (λ j. (j ≡ k) ↔ Given l k) (sym (carried-number (mover (readers a) x) a (its-plan a x))) (rest e f)))
+        (subst (λ j. (j ≡ k) ↔ Given l k) (sym (carried-number (mover (readers a) x) a (its-plan a x)))
+        (rest e f)))
 
 read-number : (a : List ℕ) (r k : ℕ) → (read-begun a r .number ≡ k) ↔ Given (read-rows a r) k
 read-number a r k =
@@ -172,7 +174,8 @@ module _ (a : List ℕ) (p k : ℕ) where
         (λ x. later e (omega arith))) end))))))
         (λ h. absurd (omega (arith, w .desk p l .phases)))
       where
-        later : {j : ℕ} → m (phase p) ≡ j → 3 < j → (0 ≡ k) ↔ Given (3 if (n < p) ∷ 6 if Idle a p ∷ last-rows) k
+        later : {j : ℕ} → m (phase p) ≡ j → 3 < j
+            → (0 ≡ k) ↔ Given (3 if (n < p) ∷ 6 if Idle a p ∷ last-rows) k
         later e h = goes-on (λ z. omega arith) (λ z. omega arith) (λ z. omega arith)
 
   module _ (i : p ≡ n) where
@@ -203,7 +206,8 @@ module _ (a : List ℕ) (p k : ℕ) where
         found : ¬ LastNotFree a p → (0 ≡ k) ↔ Given (3 if (n < p) ∷ 6 if Idle a p ∷ last-rows) k
         found d = writes-on (λ z. omega arith) (passes d (passes no-reader nothing-more))
 
-        taken-not : free m ≡ true → ¬ ((m in-hand ≡ m last-slot) ⊎ (m (r-start (m in-hand)) ≢ m (r-end (m in-hand))))
+        taken-not : free m ≡ true
+            → ¬ ((m in-hand ≡ m last-slot) ⊎ (m (r-start (m in-hand)) ≢ m (r-end (m in-hand))))
         taken-not f = let (d, s) = differ-and-same _ _ _ _ f in ⊎-elim d (λ g. g s)
 
         none-free : free m ≡ false → m in-hand ≡ suc n → LastNotFree a p

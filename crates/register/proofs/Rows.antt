@@ -49,7 +49,8 @@ row number false x y {W} {l} {k} s rest = (λ e. by-first (s .0 refl) (sym e), b
     back (by-later d g) = absurd (d (s .0 refl))
 
 -- a row whose condition does not hold
-pub passes : {j i k : ℕ} {W : Type 0} {l : List Row} → ¬ W → (i ≡ k) ↔ Given l k → (i ≡ k) ↔ Given (j if W ∷ l) k
+pub passes : {j i k : ℕ} {W : Type 0} {l : List Row} → ¬ W → (i ≡ k) ↔ Given l k
+    → (i ≡ k) ↔ Given (j if W ∷ l) k
 passes {j} {i} {k} {W} {l} d rest = (λ e. by-later d (rest .0 e), back)
   where
     back : Given (j if W ∷ l) k → i ≡ k

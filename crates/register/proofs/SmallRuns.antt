@@ -1,7 +1,7 @@
 -- Document 01's small runs marked P, computed from the definitions: one statement over one table. Assumes nothing.
 use mathlib.Core.Path.{_≡_, refl}
 use mathlib.Core.Bool.{Bool, true, false}
-use mathlib.Core.List.{List, [], _∷_, _++_, map}
+use mathlib.Core.List.{List, [], _∷_, _++_}
 use Prim.Native.Nat.{ℕ}
 use lib.ListN.{getD, take, replicate}
 use Rattle.register.specs.Place.{Record}
@@ -18,7 +18,7 @@ use Rattle.register.specs.Calls.{after}
 abbrev pub answer-to : List ℕ → List Move → Move → Answer
 answer-to a l x = answered (after a l) x
 
-abbrev flag : Bool → ℕ
+abbrev pub flag : Bool → ℕ
 flag true = 1
 flag false = 0
 
@@ -81,7 +81,8 @@ small-runs =
     ∷ row-of (current-word (after areaP1 (take 8 input-A)) ∷ current-word (after areaP1 (take 12 input-A)) ∷ [])
     (4294967296 ∷ 4294967297 ∷ [])
     -- P6
-    ∷ row-of (said-and-left (answer-to areaP1 (read 0 ∷ step 0 ∷ step 0 ∷ []) (step 0))) (1 ∷ 0 ∷ 1 ∷ 0 ∷ 7 ∷ [])
+    ∷ row-of (said-and-left (answer-to areaP1 (read 0 ∷ step 0 ∷ step 0 ∷ []) (step 0)))
+    (1 ∷ 0 ∷ 1 ∷ 0 ∷ 7 ∷ [])
     -- P7: the writer's phase after its begin and each step: it looks in phase 1; then the slot of each write
     ∷ row-of (writer-phases areaP1 (written (8 ∷ []) 2)) (1 ∷ 1 ∷ 2 ∷ [])
     ∷ row-of (after areaP1 (written (8 ∷ []) 8)) area8

@@ -40,7 +40,8 @@ module _ (a : List ℕ) where
   slots-at : (s : ℕ) → s < n + 2
       → map (memory a) (r-start s ∷ r-end s ∷ size s ∷ slot-write-number s ∷ [])
       ≡ slot a s 0 ∷ slot a s 1 ∷ slot a s 2 ∷ slot a s 3 ∷ []
-  slots-at s k = λ i. w 0 (omega arith) i ∷ w 1 (omega arith) i ∷ w 2 (omega arith) i ∷ w 3 (omega arith) i ∷ []
+  slots-at s k = λ i.
+      w 0 (omega arith) i ∷ w 1 (omega arith) i ∷ w 2 (omega arith) i ∷ w 3 (omega arith) i ∷ []
     where
       w : (f : ℕ) → f < 4 → memory a (slot-field f s) ≡ slot a s f
       w f h = slot-at f s h k
@@ -49,8 +50,8 @@ module _ (a : List ℕ) where
       → map (memory a) (phase r ∷ last r ∷ pos r ∷ len r ∷ desk-write-number r ∷ finished r ∷ [])
       ≡ desk a r 0 ∷ desk a r 1 ∷ desk a r 2 ∷ desk a r 3 ∷ desk a r 4 ∷ desk a r 5 ∷ []
   desks-at r k = λ i.
-      w 0 (omega arith) i ∷ w 1 (omega arith) i ∷ w 2 (omega arith) i ∷ w 3 (omega arith) i ∷ w 4 (omega arith) i
-      ∷ w 5 (omega arith) i ∷ []
+      w 0 (omega arith) i ∷ w 1 (omega arith) i ∷ w 2 (omega arith) i ∷ w 3 (omega arith) i
+      ∷ w 4 (omega arith) i ∷ w 5 (omega arith) i ∷ []
     where
       w : (f : ℕ) → f < 6 → memory a (desk-field f r) ≡ desk a r f
       w f h = desk-at f r h k

@@ -123,7 +123,8 @@ same-either false x = refl
 
 -- ---- what holds of either branch holds of the test
 
-pub if-true {ℓ} : {A : Type 0} (P : A → Type ℓ) (b : Bool) (x y : A) → (b ≡ true → P x) → (b ≡ false → P y)
+pub if-true {ℓ} : {A : Type 0} (P : A → Type ℓ) (b : Bool) (x y : A) → (b ≡ true → P x)
+    → (b ≡ false → P y)
     → P (cond b x y)
 if-true P true x y f g = f refl
 if-true P false x y f g = g refl

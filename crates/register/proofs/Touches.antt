@@ -2,16 +2,16 @@
 -- number, 1 if an operation ended, its age, and of each word that differs the address, what it was, what it is.
 -- Assumes nothing.
 use mathlib.Core.Path.{_≡_, refl}
-use mathlib.Core.Bool.{Bool, true, false, cond}
+use mathlib.Core.Bool.{cond}
 use mathlib.Core.List.{List, [], _∷_, _++_}
 use Prim.Native.Nat.{ℕ, suc}
 use lib.Dec.{eqb}
 use lib.ListN.{replicate}
 use Rattle.register.specs.Area.{is-area, slot-sound, desk-sound, writer-sound, undamaged}
 use Rattle.register.specs.Steps.{reader-step, writer-step, Move, read, write, step}
-use Rattle.register.specs.Calls.{Answer, fresh, carried-out, answered}
+use Rattle.register.specs.Calls.{fresh, carried-out, answered}
 use Rattle.register.specs.Lists.{Each, none, also}
-use Rattle.register.proofs.SmallRuns.{Row, row-of}
+use Rattle.register.proofs.SmallRuns.{flag, Row, row-of}
 
 -- two readers, records of at most three words
 abbrev area-of : List ℕ → List ℕ → List ℕ
@@ -38,12 +38,10 @@ changes i [] (y ∷ b) = i ∷ 0 ∷ y ∷ changes (suc i) [] b
 changes i (x ∷ a) [] = i ∷ x ∷ 0 ∷ changes (suc i) a []
 changes i (x ∷ a) (y ∷ b) = cond (eqb x y) (changes (suc i) a b) (i ∷ x ∷ y ∷ changes (suc i) a b)
 
-abbrev flag : Bool → ℕ
-flag true = 1
-flag false = 0
-
 abbrev touched : List ℕ → Move → List ℕ
-touched a x = answered a x .number ∷ flag (answered a x .ended) ∷ answered a x .age ∷ changes 0 a (answered a x .area)
+touched a x =
+    answered a x .number ∷ flag (answered a x .ended) ∷ answered a x .age
+    ∷ changes 0 a (answered a x .area)
 
 abbrev rows : List Row
 rows =
@@ -54,7 +52,8 @@ rows =
     ∷ row-of (touched (reading-at 0 1 1) (read 1)) (0 ∷ 0 ∷ 0 ∷ (45 ∷ 0 ∷ 1 ∷ []))
     ∷ row-of (touched (reading-at 0 1 1) (read 0)) (0 ∷ 0 ∷ 0 ∷ (36 ∷ 0 ∷ 1 ∷ []))
     ∷ row-of (touched (writing-at 0 2 1 2) (write (9 ∷ [])))
-    (0 ∷ 0 ∷ 0 ∷ (54 ∷ 0 ∷ 1 ∷ 56 ∷ 2 ∷ 0 ∷ 57 ∷ 1 ∷ 0 ∷ 58 ∷ 2 ∷ 1 ∷ 61 ∷ 91 ∷ 9 ∷ []))
+    (0 ∷ 0 ∷ 0
+    ∷ (54 ∷ 0 ∷ 1 ∷ 56 ∷ 2 ∷ 0 ∷ 57 ∷ 1 ∷ 0 ∷ 58 ∷ 2 ∷ 1 ∷ 61 ∷ 91 ∷ 9 ∷ []))
     -- a reader's steps
     ∷ row-of (touched (reading-at 1 1 1) (step 0)) (0 ∷ 0 ∷ 0 ∷ (36 ∷ 1 ∷ 2 ∷ []))
     ∷ row-of (touched (reading-at 1 3 1) (step 0)) (0 ∷ 0 ∷ 0 ∷ (36 ∷ 1 ∷ 4 ∷ []))
@@ -64,7 +63,8 @@ rows =
     ∷ row-of (touched (reading-at 4 1 1) (step 0))
     (0 ∷ 0 ∷ 0 ∷ (36 ∷ 4 ∷ 5 ∷ 38 ∷ 1 ∷ 0 ∷ 39 ∷ 3 ∷ 2 ∷ 40 ∷ 51 ∷ 42 ∷ []))
     ∷ row-of (touched (reading-at 4 3 1) (step 0))
-    (0 ∷ 1 ∷ 37 ∷ (36 ∷ 4 ∷ 0 ∷ 38 ∷ 1 ∷ 0 ∷ 39 ∷ 3 ∷ 0 ∷ 40 ∷ 51 ∷ 44 ∷ 41 ∷ 0 ∷ 1 ∷ []))
+    (0 ∷ 1 ∷ 37
+    ∷ (36 ∷ 4 ∷ 0 ∷ 38 ∷ 1 ∷ 0 ∷ 39 ∷ 3 ∷ 0 ∷ 40 ∷ 51 ∷ 44 ∷ 41 ∷ 0 ∷ 1 ∷ []))
     ∷ row-of (touched (reading-at 5 1 1) (step 0)) (0 ∷ 0 ∷ 0 ∷ (38 ∷ 1 ∷ 2 ∷ 43 ∷ 62 ∷ 112 ∷ []))
     ∷ row-of (touched (reading-at 5 1 2) (step 0))
     (0 ∷ 1 ∷ 30 ∷ (36 ∷ 5 ∷ 0 ∷ 38 ∷ 2 ∷ 3 ∷ 41 ∷ 0 ∷ 1 ∷ 44 ∷ 63 ∷ 113 ∷ []))
@@ -80,7 +80,8 @@ rows =
     ∷ row-of (touched (writing-at 4 2 1 2) (step 2)) (0 ∷ 0 ∷ 0 ∷ (22 ∷ 2 ∷ 0 ∷ 54 ∷ 4 ∷ 5 ∷ []))
     ∷ row-of (touched (writing-at 5 2 1 2) (step 2)) (0 ∷ 0 ∷ 0 ∷ (23 ∷ 2 ∷ 0 ∷ 54 ∷ 5 ∷ 6 ∷ []))
     ∷ row-of (touched (writing-at 6 2 1 2) (step 2))
-    (0 ∷ 0 ∷ 0 ∷ (7 ∷ 12884901889 ∷ 8589934592 ∷ 54 ∷ 6 ∷ 7 ∷ 59 ∷ 4294967297 ∷ 12884901889 ∷ []))
+    (0 ∷ 0 ∷ 0
+    ∷ (7 ∷ 12884901889 ∷ 8589934592 ∷ 54 ∷ 6 ∷ 7 ∷ 59 ∷ 4294967297 ∷ 12884901889 ∷ []))
     ∷ row-of (touched (writing-at 7 2 1 2) (step 2))
     (0 ∷ 1 ∷ 0 ∷ (15 ∷ 2 ∷ 1 ∷ 54 ∷ 7 ∷ 0 ∷ 55 ∷ 0 ∷ 2 ∷ 60 ∷ 81 ∷ 82 ∷ []))
     ∷ []

@@ -7,7 +7,8 @@ use lib.ListN.{length, take, drop, replicate}
 use Rattle.register.specs.Place.{Record, Memory, Store, _≔_, copied}
 use Rattle.register.specs.Table.{total, address, view, store}
 use Rattle.register.specs.Area.{form1, slots-at, desks-at, writer-at, header, current, size, contents}
-use Rattle.register.specs.Area.{phase, len, desk-write-number, finished, read-record, writer-phase, writes-ended}
+use Rattle.register.specs.Area.{phase, len, desk-write-number, finished, read-record}
+use Rattle.register.specs.Area.{writer-phase, writes-ended}
 use Rattle.register.specs.Area.{all, in-range, known-form, readers, capacity, table, is-area, memory, undamaged}
 use Rattle.register.specs.Steps.{_else_, unless}
 use Rattle.register.specs.Steps.{Plan, refuse, accept, Move, read, write, step, mover, plan}

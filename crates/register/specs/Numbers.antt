@@ -85,7 +85,8 @@ module _ (a : List ℕ) where
 
   -- the step would lift r_end (reader step 2) or the counter of current (reader step 3) above N
   pub data Overfull : ℕ → Type 0 where
-    gone : {r : ℕ} → r < n → memory a (phase r) ≡ 2 → n < memory a (r-end (memory a (last r))) + 1 → Overfull r
+    gone : {r : ℕ} → r < n → memory a (phase r) ≡ 2 → n < memory a (r-end (memory a (last r))) + 1
+        → Overfull r
     bound : {r : ℕ} → r < n → memory a (phase r) ≡ 3 → n < memory a current % 4294967296 + 1 → Overfull r
 
   abbrev pub step-rows : ℕ → List Row

@@ -52,9 +52,11 @@ module _ (n : ℕ) (w : Written) where
       (cond (eqb (w .process) n) (values-for (w .len)) (move (read (w .process))))
 
   pub asks-for : ¬ Malformed n w → asked n w ≡ due
-  asks-for d = go (ℕ-discrete (w .kind) 0) (ℕ-discrete (w .kind) 1) (ℕ-discrete (w .process) n) (ℕ-discrete (w .len) 0)
+  asks-for d =
+      go (ℕ-discrete (w .kind) 0) (ℕ-discrete (w .kind) 1) (ℕ-discrete (w .process) n) (ℕ-discrete (w .len) 0)
     where
-      go : Dec (w .kind ≡ 0) → Dec (w .kind ≡ 1) → Dec (w .process ≡ n) → Dec (w .len ≡ 0) → asked n w ≡ due
+      go : Dec (w .kind ≡ 0) → Dec (w .kind ≡ 1) → Dec (w .process ≡ n) → Dec (w .len ≡ 0)
+          → asked n w ≡ due
       go (yes e) s (yes p) l = rw (e, eq-eqb (w .process) n p)
       go (yes e) s (no p) (yes l) = rw (e, ne-eqb (w .process) n p, l)
       go (yes e) s (no p) (no l) = absurd (d (length-of-read e p l))

@@ -89,7 +89,8 @@ module _ (b : List ℕ) (h : Header) (head : h ≡ header-of b) where
       ap (λ z. joined (leb 1 (z .n)) (sizes-behind z)) head
       ∙ joined-all (leb 1 (readers b)) (sizes-behind (header-of b))
 
-  pub parts-tested : (k : ℕ) → k ≡ length b → joined (leb (h .moves) 4000) (parts-behind h k) ≡ all (part-tests b)
+  pub parts-tested : (k : ℕ) → k ≡ length b
+      → joined (leb (h .moves) 4000) (parts-behind h k) ≡ all (part-tests b)
   parts-tested k e =
       ap (λ z. joined (leb (z .moves) 4000) (parts-behind z k)) head
       ∙ ap (λ i. joined (leb (moves b) 4000) (parts-behind (header-of b) i)) e

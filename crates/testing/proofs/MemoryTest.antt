@@ -18,7 +18,8 @@ module _ (n c : ℕ) (m : Memory) where
   unfolding slot-sound
   slot-by s e f g = rw (e, f, g, three)
 
-  pub desk-by : (r : ℕ) {w x y z f : ℕ} → w ≡ m (phase r) → x ≡ m (last r) → y ≡ m (pos r) → z ≡ m (len r)
+  pub desk-by : (r : ℕ) {w x y z f : ℕ} → w ≡ m (phase r) → x ≡ m (last r) → y ≡ m (pos r)
+      → z ≡ m (len r)
       → f ≡ m (finished r)
       → leb w 5 && ltb x (n + 2) && leb y z && leb z c && leb f 1 && (not (eqb w 5) || ltb y z)
       ≡ desk-sound n c m r

@@ -22,7 +22,8 @@ use Rattle.answer.proofs.Stored.{stored, store-append, returned, refuses, accep
 
 pub set-out : (p : Layout) (a : List ℕ) (v : Record) {b d e f : List ℕ}
     → b ≡ stored p a (writer-len ≔ length v) → d ≡ stored p b (in-hand ≔ 0)
-    → e ≡ stored p d (writer-pos ≔ 0) → f ≡ stored p e (writer-phase ≔ 1) → f ≡ words-after p a (sets-out v)
+    → e ≡ stored p d (writer-pos ≔ 0) → f ≡ stored p e (writer-phase ≔ 1)
+    → f ≡ words-after p a (sets-out v)
 set-out p a v first second third fourth = rw (fourth, third, second, first)
 
 -- ---- the begin

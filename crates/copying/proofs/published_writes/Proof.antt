@@ -15,8 +15,9 @@ add-result c =
     let phase = c .before in
     let ended = phase .before in
     let start = ended .before .before in
-    let room = one-more (ended .writer-field .ensures) (phase .writer-field2 .ensures) (c .if1 .taken) (start .pre .1) in
-    record { fits = room }
+    let is-ended = ended .writer-field .ensures in
+    let is-phase = phase .writer-field2 .ensures in
+    record { fits = one-more is-ended is-phase (c .if1 .taken) (start .pre .1) }
 
 returns : tie.Need-returns
 returns c = search asleep

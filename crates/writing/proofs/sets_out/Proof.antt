@@ -29,7 +29,8 @@ set-writer-field-requires-4 c κs =
     let first = second .before .before .before .before in
     let start = first .before .before .before .before in (
       still-sized (start .pre)
-          (third .set-writer-field3 .kept .0 ∙ second .set-writer-field2 .kept .0 ∙ first .set-writer-field .kept .0),
+          (third .set-writer-field3 .kept .0 ∙ second .set-writer-field2 .kept .0
+          ∙ first .set-writer-field .kept .0),
       search needs,
     )
 
