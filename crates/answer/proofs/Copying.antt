@@ -6,9 +6,9 @@ use native.Mathlib.Numerals.{add-one}
 use native.Mathlib.Omega.{arith}
 use lib.ListN.{length, getD, drop, drop-of-length-le}
 use lib.Seq.{drop-cons}
-use Rattle.register.specs.Place.{Record, Place, Store, _≔_, copied}
+use Rattle.theory.specs.Place.{Record, Place, Store, _≔_, copied}
 use Rattle.register.specs.Area.{form1}
-use Rattle.register.proofs.Tables.{length-store}
+use Rattle.theory.proofs.Tables.{length-store}
 use Rattle.area.specs.Words.{words-after}
 use Rattle.area.specs.declared.Layout.{Layout}
 

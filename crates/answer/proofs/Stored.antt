@@ -12,8 +12,8 @@ use Prim.Native.Nat.{ℕ, _+_, _<_}
 use native.Mathlib.Omega.{arith}
 use lib.ListN.{length, set}
 use borrow.Author.Tests.{le-ltb}
-use Rattle.register.specs.Place.{Store}
-use Rattle.register.specs.Table.{Table, address, store}
+use Rattle.theory.specs.Place.{Store}
+use Rattle.theory.specs.Table.{Table, address, store}
 use Rattle.register.specs.Area.{form1, last, in-hand}
 use Rattle.register.specs.Steps.{Plan, refuse, accept}
 use Rattle.area.specs.Words.{Sized, memory-of, words-after}

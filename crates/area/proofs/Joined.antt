@@ -2,7 +2,7 @@
 use mathlib.Core.Bool.{Bool, _&&_, and-true, and-assoc}
 use mathlib.Core.Path.{_≡_, sym, _∙_}
 use mathlib.Core.List.{List, [], _∷_}
-use Rattle.register.specs.Area.{all}
+use Rattle.theory.specs.Lists.{all}
 
 -- a test, and those of a list, each joined to what stands before it
 abbrev joined : Bool → List Bool → Bool

@@ -3,9 +3,9 @@ use mathlib.Core.Path.{_≡_, sym, ap, ap₂, _∙_}
 use Prim.Native.Nat.{ℕ, _+_, _*_, _≤_, _<_}
 use native.Mathlib.Nat.{mul-le-mul}
 use native.Mathlib.Omega.{arith}
-use Rattle.register.specs.Table.{width, total}
+use Rattle.theory.specs.Table.{width, total}
 use Rattle.register.specs.Area.{form1}
-use Rattle.register.proofs.Tables.{row-within}
+use Rattle.theory.proofs.Tables.{row-within}
 use Rattle.area.specs.declared.Layout.{Layout}
 use Rattle.area.specs.Words.{word-at, layout-of, Laid}
 

@@ -7,11 +7,11 @@ use mathlib.Core.List.{List, [], _∷_}
 use Prim.Native.Nat.{ℕ, _+_, _<_}
 use native.Mathlib.Nat.{add-zero}
 use lib.ListN.{getD, set}
-use Rattle.register.specs.Place.{Place, _≔_}
-use Rattle.register.specs.Table.{Table, address, view, store}
+use Rattle.theory.specs.Place.{Place, _≔_}
+use Rattle.theory.specs.Table.{Table, address, view, store}
 use Rattle.register.specs.Area.{form1, slot-field, contents, desk-field, read-record}
 use Rattle.register.specs.Area.{writer-field, write-record}
-use Rattle.register.proofs.Tables.{Has, view-here}
+use Rattle.theory.proofs.Tables.{Has, view-here}
 use Rattle.register.proofs.Form1.{body-slot, body-contents, body-desk, body-writer, body-write-record}
 use Rattle.area.specs.Words.{word-at, slot-word, desk-word, writer-word}
 

@@ -3,8 +3,8 @@ use mathlib.Core.Path.{_≡_}
 use mathlib.Core.List.{List}
 use Prim.Native.Nat.{ℕ, _+_, _*_, _≤_}
 use lib.ListN.{length}
-use Rattle.register.specs.Place.{Memory, Store}
-use Rattle.register.specs.Table.{Table, base, width, total, view, store}
+use Rattle.theory.specs.Place.{Memory, Store}
+use Rattle.theory.specs.Table.{Table, base, width, total, view, store}
 use Rattle.register.specs.Area.{form1, slots-at, desks-at, writer-at}
 use Rattle.area.specs.declared.Layout.{Layout}
 

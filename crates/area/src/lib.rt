@@ -1,7 +1,7 @@
 // The area of document 01: where each word stands, worked out in one place, and the reads and stores of one word.
 ghost use mathlib.Core.Path.{_≡_};
 ghost use Prim.Native.Nat.{_+_, _≤_, _<_};
-ghost use Rattle.register.specs.Table.{total};
+ghost use Rattle.theory.specs.Table.{total};
 ghost use Rattle.register.specs.Area.{form1};
 ghost use Rattle.area.specs.Words.{layout-of, Laid, slot-word, desk-word, writer-word};
 

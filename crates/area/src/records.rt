@@ -2,7 +2,7 @@
 use crate::Layout;
 ghost use mathlib.Core.Path.{_≡_};
 ghost use Prim.Native.Nat.{_+_, _<_};
-ghost use Rattle.register.specs.Table.{view};
+ghost use Rattle.theory.specs.Table.{view};
 ghost use Rattle.register.specs.Area.{form1, current, contents, write-record};
 ghost use Rattle.area.specs.Words.{Sized};
 

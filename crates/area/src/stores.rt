@@ -3,7 +3,7 @@ use crate::Layout;
 ghost use mathlib.Core.Path.{_≡_};
 ghost use mathlib.Core.List.{_∷_, []};
 ghost use Prim.Native.Nat.{_+_, _<_};
-ghost use Rattle.register.specs.Place.{_≔_};
+ghost use Rattle.theory.specs.Place.{_≔_};
 ghost use Rattle.register.specs.Area.{current, slot-field, contents, desk-field, read-record};
 ghost use Rattle.register.specs.Area.{writer-field, write-record};
 ghost use Rattle.area.specs.Words.{Sized, words-after};

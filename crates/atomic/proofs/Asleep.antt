@@ -7,7 +7,7 @@ use Rattle.register.specs.Area.{is-area, slot-sound, desk-sound, writer-sound, 
 use Rattle.register.specs.Steps.{reader-step, writer-step, Move, read, step}
 use Rattle.register.specs.Calls.{made, carried-out, answered, is-own, shown}
 use Rattle.register.proofs.SmallRuns.{areaP1, written}
-use Rattle.atomic.specs.History.{Read}
+use Rattle.theory.specs.History.{Read}
 use Rattle.atomic.specs.Demands.{Run, told}
 use Rattle.atomic.proofs.Counts.{write-S}
 use Rattle.atomic.proofs.InputA.{accepted-if, of-reads-and-writes}

@@ -14,7 +14,7 @@ use mathlib.Core.Logic.{_≢_}
 use Prim.Native.Nat.{ℕ, suc, _+_, _≤_, _<_}
 use native.Mathlib.Decide.{ℕ-discrete}
 use native.Mathlib.Omega.{arith}
-use Rattle.atomic.proofs.Sums.{sum, spare}
+use Rattle.theory.proofs.Sums.{sum, spare}
 
 -- what the writer is at; `away` is the one slot beside the current one whose r_start need not be its count
 pub data Stage (n here : ℕ) (gone bound : ℕ → ℕ) (phase last hand old frozen away : ℕ) : Type 0 where

@@ -11,16 +11,16 @@ use Prim.Native.Nat.{ℕ, suc, _+_, _≤_, _<_}
 use native.Mathlib.Omega.{arith}
 use lib.ListN.{length}
 use borrow.Author.Tests.{ne-eqb}
-use Rattle.register.specs.Place.{Record, Memory, apply}
+use Rattle.theory.specs.Place.{Record, Memory, apply}
 use Rattle.register.specs.Area.{slot-write-number, phase, last, pos, len, desk-write-number, writer-phase}
 use Rattle.register.specs.Area.{in-hand, writer-pos, writer-len, read-record}
 use Rattle.register.specs.Steps.{sets-phase, unbinds, binds, takes, copies, finishes}
-use Rattle.atomic.specs.History.{Event, read-began, went-on, read-ended, Read, Write, History, closed}
-use Rattle.atomic.specs.History.{the-read, the-write, noted}
-use Rattle.register.specs.Lists.{Each, none, also}
-use Rattle.register.proofs.Tests.{eqb-same, at-each}
-use Rattle.register.proofs.Places.{row-length}
-use Rattle.atomic.proofs.Placed.{newest}
+use Rattle.theory.specs.History.{Event, read-began, went-on, read-ended, Read, Write, History, closed}
+use Rattle.theory.specs.History.{the-read, the-write, noted}
+use Rattle.theory.specs.Lists.{Each, none, also}
+use Rattle.theory.proofs.Tests.{eqb-same, at-each}
+use Rattle.theory.proofs.Places.{row-length}
+use Rattle.theory.proofs.Placed.{newest}
 use Rattle.atomic.proofs.Moves
 use Rattle.atomic.proofs.Moves.{Does, got-now, desk-record}
 use Rattle.atomic.proofs.Counting.{Counted}

@@ -18,15 +18,15 @@ use native.Mathlib.Omega.{arith}
 use lib.Dec.{lit<}
 use lib.ListN.{length, getD}
 use Rattle.register.proofs.Facts.{AreaFacts, area-facts, its-plan, whole-area, sound-area}
-use Rattle.register.specs.Place.{Store, apply}
-use Rattle.register.specs.Table.{total, view, store}
+use Rattle.theory.specs.Place.{Store, apply}
+use Rattle.theory.specs.Table.{total, view, store}
 use Rattle.register.specs.Area.{form1, readers, capacity, table, is-area}
 use Rattle.register.specs.Area.{memory, undamaged}
 use Rattle.register.specs.Steps.{Plan, refuse, accept, Move, mover}
 use Rattle.register.specs.Calls.{Answer, refused, carried-out, answered}
 use Rattle.atomic.specs.Demands.{Refused}
-use Rattle.register.proofs.Tests.{if-true}
-use Rattle.register.proofs.Tables.{view-store, length-store, store-untouched}
+use Rattle.theory.proofs.Tests.{if-true}
+use Rattle.theory.proofs.Tables.{view-store, length-store, store-untouched}
 use Rattle.register.proofs.Form1.{AllInBody, all-has, head-untouched}
 use Rattle.atomic.proofs.Moves.{Does, by}
 use Rattle.register.specs.Conditions.{Whole}

@@ -8,11 +8,11 @@ use Prim.Native.Nat.{ℕ, suc, _*_, _<_}
 use native.Mathlib.Omega.{arith}
 use lib.Dec.{eqb}
 use borrow.Author.Tests.{ne-eqb}
-use Rattle.register.specs.Place.{Memory, apply}
+use Rattle.theory.specs.Place.{Memory, apply}
 use Rattle.register.specs.Area.{current, index, r-end, phase, last, in-hand}
 use Rattle.register.specs.Steps.{sets-phase, unbinds, takes, copies, finishes}
-use Rattle.atomic.specs.History.{Event}
-use Rattle.register.proofs.Tests.{eqb-same, at-each}
+use Rattle.theory.specs.History.{Event}
+use Rattle.theory.proofs.Tests.{eqb-same, at-each}
 use Rattle.atomic.proofs.Moves
 use Rattle.atomic.proofs.Moves.{Does}
 use Rattle.atomic.proofs.Counting.{Counted}

@@ -11,20 +11,21 @@ use native.Mathlib.Omega.{arith}
 use lib.Dec.{eqb}
 use lib.ListN.{length}
 use borrow.Author.Tests.{eq-eqb, ne-eqb, lt-ltb, le-ltb}
-use Rattle.register.specs.Place.{Record}
+use Rattle.theory.specs.Place.{Record}
 use Rattle.register.specs.Area.{writer-phase, readers, memory}
 use Rattle.register.specs.Steps.{Move, step}
 use Rattle.register.specs.Calls.{answered, stepped}
-use Rattle.atomic.specs.History.{Accepted, none, then, got, Event, event, events, Read, Write, History}
-use Rattle.atomic.specs.History.{closed, changed-at, stepped-on, the-read, the-write, noted, all-noted}
-use Rattle.atomic.specs.History.{nothing-yet}
-use Rattle.register.specs.Lists.{Each, also}
+use Rattle.atomic.specs.Seen.{Accepted, none, then, got, event, events}
+use Rattle.theory.specs.History.{Event, Read, Write, History}
+use Rattle.theory.specs.History.{closed, changed-at, stepped-on, the-read, the-write, noted, all-noted}
+use Rattle.theory.specs.History.{nothing-yet}
+use Rattle.theory.specs.Lists.{Each, also}
 use Rattle.atomic.specs.Demands.{beginning, told}
 use Rattle.atomic.specs.Complete.{Moment, trail, moves-of, steps, ends-read, leaves-phase, ends-write}
 use Rattle.atomic.specs.Complete.{begun-at, since, handed, told-of, read-told, publication-told}
 use Rattle.atomic.specs.Complete.{End, end-told, publication-of, end-of, ended-only, LeavesNothingOut}
-use Rattle.register.proofs.Tests.{each-follows}
-use Rattle.atomic.proofs.Placed.{between}
+use Rattle.theory.proofs.Tests.{each-follows}
+use Rattle.theory.proofs.Placed.{between}
 use Rattle.atomic.proofs.Dates.{Ends, all-ended, one-open}
 use Rattle.register.specs.Conditions.{InRange}
 use Rattle.atomic.proofs.Called.{opened}

@@ -13,14 +13,14 @@ use native.Mathlib.Decide.{ℕ-discrete}
 use native.Mathlib.Omega.{arith}
 use lib.Dec.{eqb}
 use borrow.Author.Tests.{ne-eqb}
-use Rattle.register.specs.Place.{Memory, apply}
+use Rattle.theory.specs.Place.{Memory, apply}
 use Rattle.register.specs.Area.{current, index, counter, r-start, r-end, phase, last, writer-phase, last-slot}
 use Rattle.register.specs.Area.{in-hand, old-word}
 use Rattle.register.specs.Steps.{sets-phase, unbinds, binds, takes, copies, finishes, clears-start, clears-end}
 use Rattle.register.specs.Steps.{publishes, freezes}
-use Rattle.atomic.specs.History.{Event}
-use Rattle.register.proofs.Tests.{hit, miss, eqb-same, same-either}
-use Rattle.atomic.proofs.Sums.{sum, sum-one, sum-same, sum-at-most, sum-zero, sum-ones, sum-swap}
+use Rattle.theory.specs.History.{Event}
+use Rattle.theory.proofs.Tests.{hit, miss, eqb-same, same-either}
+use Rattle.theory.proofs.Sums.{sum, sum-one, sum-same, sum-at-most, sum-zero, sum-ones, sum-swap}
 use Rattle.atomic.proofs.Moves
 use Rattle.atomic.proofs.Moves.{Does}
 use Rattle.atomic.proofs.Balance.{Balance, one-leaves, one-joins, write-begins, hand-free, hand-held}

@@ -12,8 +12,8 @@ use native.Mathlib.Omega.{arith}
 use lib.Dec.{ltb}
 use lib.ListN.{length}
 use borrow.Author.Tests.{lt-ltb, le-ltb}
-use Rattle.register.specs.Lists.{Each, none, also}
-use Rattle.atomic.specs.History.{Write, closed}
+use Rattle.theory.specs.Lists.{Each, none, also}
+use Rattle.theory.specs.History.{Write, closed}
 use Rattle.atomic.specs.Demands.{later-published}
 
 -- document 01's: how many writes had ended before move t

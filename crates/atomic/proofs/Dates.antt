@@ -13,16 +13,16 @@ use native.Mathlib.Decide.{ℕ-discrete}
 use native.Mathlib.Omega.{arith}
 use lib.Dec.{eqb}
 use borrow.Author.Tests.{eq-eqb, ne-eqb}
-use Rattle.register.specs.Place.{Record, Memory}
+use Rattle.theory.specs.Place.{Record, Memory}
 use Rattle.register.specs.Area.{slot-write-number, last, desk-write-number, writer-phase}
-use Rattle.atomic.specs.History.{Event, Read, Write, History, closed, noted, the-read, the-write}
-use Rattle.register.specs.Lists.{Each, none, also}
+use Rattle.theory.specs.History.{Event, Read, Write, History, closed, noted, the-read, the-write}
+use Rattle.theory.specs.Lists.{Each, none, also}
 use Rattle.atomic.specs.Demands.{later-published}
 use Rattle.atomic.proofs.Counts.{all-later, not-counted, closed-counted}
-use Rattle.register.proofs.Tests.{each-follows}
+use Rattle.theory.proofs.Tests.{each-follows}
 use Rattle.atomic.proofs.Moves
 use Rattle.atomic.proofs.Moves.{Does, got-now}
-use Rattle.atomic.proofs.Copying.{Writing}
+use Rattle.theory.proofs.Copying.{Writing}
 use Rattle.atomic.proofs.Told.{Told}
 
 -- all writes have ended, but the newest while the writer is in phase 7

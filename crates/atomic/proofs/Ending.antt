@@ -4,20 +4,21 @@ use mathlib.Core.Path.{_≡_, refl, sym, ap, subst, subst₂, _∙_}
 use mathlib.Core.Logic.{_≢_}
 use mathlib.Core.Bool.{true}
 use mathlib.Core.List.{List}
-use Prim.Native.Nat.{ℕ, _+_, _≤_, _<_}
+use Prim.Native.Nat.{ℕ, suc, _+_, _≤_, _<_}
 use native.Mathlib.Decide.{ℕ-discrete}
 use native.Mathlib.Omega.{arith}
 use lib.ListN.{length}
-use Rattle.register.specs.Place.{Record}
+use borrow.Author.Tests.{eq-eqb, ne-eqb}
+use Rattle.theory.specs.Place.{Record}
 use Rattle.register.specs.Area.{size, slot-write-number, contents, phase, last, len, desk-write-number}
 use Rattle.register.specs.Area.{writer-phase, writer-len, readers, is-area, memory, undamaged}
 use Rattle.register.specs.Steps
 use Rattle.register.specs.Steps.{Plan, refuse, accept, read-begins, write-begins, Move, read, write, step, mover}
 use Rattle.register.specs.Calls.{carried-out, answered}
-use Rattle.atomic.specs.History.{History}
+use Rattle.theory.specs.History.{Write, History}
 use Rattle.atomic.specs.Demands.{told, NeverStuck, record-of, Ends}
-use Rattle.register.proofs.Places.{row, row-length}
-use Rattle.atomic.proofs.Placed.{Where, where-numbered}
+use Rattle.theory.proofs.Places.{row, row-length}
+use Rattle.theory.proofs.Placed.{Placed, at-start, at-newest, further-back, Where}
 use Rattle.atomic.proofs.Held.{scan-within}
 use Rattle.register.proofs.Facts.{number-of}
 use Rattle.atomic.proofs.Going.{read-begin-number, write-begin-number, step-number}
@@ -25,6 +26,18 @@ use Rattle.atomic.proofs.StepCounts.{few-early, few-late}
 use Rattle.register.specs.Conditions.{Whole}
 use Rattle.register.proofs.Facts.{its-plan, whole-area}
 use Rattle.atomic.proofs.Promise.{Good, run-ends-good}
+
+-- a read shows the record of the write that has its number
+placed-numbered : {first : Record} {begin end back : ℕ} {v : Record} {writes : List Write} (n : ℕ)
+    → Placed first begin end v back writes → back + n ≡ length writes → v ≡ record-of first writes n
+placed-numbered n (at-start e) q = e
+placed-numbered n (at-newest {writes = writes} p e) q = rw (eq-eqb n (suc (length writes)) (omega arith)) e
+placed-numbered n (further-back {writes = writes} p rest) q =
+    rw (ne-eqb n (suc (length writes)) (λ z. omega arith)) (placed-numbered n rest (omega arith))
+
+where-numbered : {first : Record} {begin end n : ℕ} {v : Record} {writes : List Write}
+    → Where first begin end v n writes → v ≡ record-of first writes n
+where-numbered {n = n} a = placed-numbered n (a .placed) (a .number)
 
 -- on an undamaged area a call gives the number of its plan
 plan-number : (a : List ℕ) (x : Move) → is-area a ≡ true → undamaged a ≡ true → answered a x .number

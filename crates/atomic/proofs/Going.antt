@@ -8,14 +8,14 @@ use lib.Dec.{eqb, leb, ltb}
 use lib.ListN.{length}
 use borrow.Author.Tests.{eq-eqb, ne-eqb, lt-ltb, le-ltb}
 use Rattle.register.proofs.Facts.{number-of}
-use Rattle.register.specs.Place.{Record, Memory}
+use Rattle.theory.specs.Place.{Record, Memory}
 use Rattle.register.specs.Area.{current, counter, r-start, r-end, size, limit, most-writes, phase, last, pos}
 use Rattle.register.specs.Area.{len}
 use Rattle.register.specs.Area.{writer-phase, in-hand, writes-ended}
 use Rattle.register.specs.Steps
 use Rattle.register.specs.Steps.{Plan, refuse, accept, read-begins, write-begins, reader-step, writer-step, free}
-use Rattle.register.proofs.Tests.{if-true, if-equal, if-less, end, next, at-number}
-use Rattle.register.proofs.Tests.{not-differ-and-same}
+use Rattle.theory.proofs.Tests.{if-true, if-equal, if-less, end, next, at-number}
+use Rattle.theory.proofs.Tests.{not-differ-and-same}
 use Rattle.atomic.proofs.Counting.{Counted}
 use Rattle.atomic.proofs.Held.{more-slots, counter-room, end-room}
 use Rattle.atomic.proofs.Clean.{Clean}

@@ -7,11 +7,11 @@ use Prim.Native.Nat.{ℕ, suc, _+_, _≤_, _<_}
 use native.Mathlib.Decide.{ℕ-discrete}
 use native.Mathlib.Omega.{arith}
 use lib.Dec.{eqb}
-use Rattle.register.specs.Place.{Memory}
+use Rattle.theory.specs.Place.{Memory}
 use Rattle.register.specs.Area.{current, index, counter, r-start, r-end, phase, last, writer-phase, last-slot}
 use Rattle.register.specs.Area.{in-hand, old-word}
-use Rattle.register.proofs.Tests.{hit, miss}
-use Rattle.atomic.proofs.Sums.{sum-one, sum-at-most, sum-member, sum-ones}
+use Rattle.theory.proofs.Tests.{hit, miss}
+use Rattle.theory.proofs.Sums.{sum-one, sum-at-most, sum-member, sum-ones}
 use Rattle.atomic.proofs.Balance.{Stage, idle, scanning, filling, told, Settled, hand-held}
 use Rattle.atomic.proofs.Counting.{is-bound, bound, bound-here, unbound, bound-at-most, Counted}
 

@@ -10,12 +10,13 @@ use Rattle.register.specs.Area.{is-area, slot-sound, desk-sound, writer-sound, 
 use Rattle.register.specs.Steps.{reader-step, writer-step, Move, read, write, step, mover}
 use Rattle.register.specs.Calls.{Answer, made, carried-out, answered, is-own, shown}
 use Rattle.register.specs.Calls.{after}
-use Rattle.atomic.specs.History.{Accepted, none, then, Read, Write, History}
-use Rattle.atomic.specs.Line.{start, reading, writing, keep, swap, here, Line}
-use Rattle.atomic.specs.Line.{done, from-start, to-read, from-write}
+use Rattle.atomic.specs.Seen.{Accepted, none, then}
+use Rattle.theory.specs.History.{Read, Write, History}
+use Rattle.theory.specs.Line.{start, reading, writing, keep, swap, here, Line}
+use Rattle.theory.specs.Line.{done, from-start, to-read, from-write}
 use Rattle.atomic.specs.Demands.{Run, told}
-use Rattle.register.proofs.Tests.{both}
-use Rattle.atomic.proofs.Lining.{Rising, no-more, next, in-order}
+use Rattle.theory.proofs.Tests.{both}
+use Rattle.theory.proofs.Lining.{Rising, no-more, next, in-order}
 use Rattle.register.proofs.SmallRuns.{flag, areaP1, input-A, current-word}
 
 -- ---- what is printed

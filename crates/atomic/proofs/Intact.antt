@@ -8,19 +8,21 @@ use mathlib.Core.List.{List, [], _∷_}
 use Prim.Native.Nat.{ℕ, _≤_, _<_}
 use lib.Dec.{eqb, ltb, leb, lit<}
 use lib.ListN.{length, getD}
-use Rattle.register.specs.Place.{Record, Memory, Store, apply}
-use Rattle.register.specs.Table.{address, has}
+use Rattle.theory.specs.Place.{Record, Memory, Store, apply}
+use Rattle.theory.specs.Table.{address, has}
 use Rattle.register.specs.Area.{phase, len, finished, read-record, writer-phase, writes-ended, most-writes}
-use Rattle.register.specs.Area.{readers, capacity, table, all, memory}
+use Rattle.register.specs.Area.{readers, capacity, table, memory}
+use Rattle.theory.specs.Lists.{all}
 use Rattle.register.specs.Steps.{Plan, refuse, accept, sets-phase, begins-write, Move, read, write, step, mover}
-use Rattle.register.specs.Calls.{carried-out, answered, is-own, words-from, shown}
-use Rattle.atomic.specs.History.{went-on, looked, published, write-ended}
-use Rattle.register.specs.Lists.{Each}
+use Rattle.register.specs.Calls.{carried-out, answered, is-own, shown}
+use Rattle.theory.specs.Lists.{words-from}
+use Rattle.theory.specs.History.{went-on, looked, published, write-ended}
+use Rattle.theory.specs.Lists.{Each}
 use Rattle.atomic.specs.Demands.{busy, Intact, Keeps}
-use Rattle.register.specs.Table.{Untouched}
-use Rattle.register.proofs.Tests.{each-follows, if-true}
-use Rattle.register.proofs.Places.{row, row-same}
-use Rattle.register.proofs.Tables.{has-it, store-untouched}
+use Rattle.theory.specs.Table.{Untouched}
+use Rattle.theory.proofs.Tests.{each-follows, if-true}
+use Rattle.theory.proofs.Places.{row, row-same}
+use Rattle.theory.proofs.Tables.{has-it, store-untouched}
 use Rattle.atomic.proofs.Moves.{desk-record}
 use Rattle.atomic.proofs.Planned.{seen, seen-step}
 use Rattle.atomic.proofs.Others.{busy-in, is-end, works, DeskSame, desk-same, others-same}

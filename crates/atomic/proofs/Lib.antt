@@ -1,18 +1,13 @@
 -- The proofs, from the ground up. Assumes nothing.
 mod Counts
-pub mod Sums
 mod Balance
 pub mod Moves
 mod Counting
 mod Held
 mod WriterDesk
 mod Stays
-mod Placed
-mod Inserting
-mod Lining
 mod InputA
 mod Asleep
-mod Copying
 mod Told
 mod Telling
 mod StepCounts

@@ -9,12 +9,12 @@ use Prim.Native.Nat.{ℕ, _≤_}
 use native.Mathlib.Omega.{arith}
 use lib.Dec.{eqb, leb, leb→le}
 use lib.ListN.{length}
-use Rattle.register.specs.Place.{Record}
-use Rattle.register.specs.Table.{total, view}
+use Rattle.theory.specs.Place.{Record}
+use Rattle.theory.specs.Table.{total, view}
 use Rattle.register.specs.Area.{form1, in-range, known-form, memory, undamaged}
 use Rattle.register.specs.Calls.{Answer, refused, fresh, made}
 use Rattle.atomic.specs.Demands.{Refused, Makes}
-use Rattle.register.proofs.Tests.{true-passes, both, if-true}
+use Rattle.theory.proofs.Tests.{true-passes, both, if-true}
 use Rattle.register.specs.Conditions.{InRange, T-of}
 use Rattle.register.specs.Numbers.{by-none, by-later}
 use Rattle.register.proofs.Numbers.{numbers}

@@ -12,24 +12,25 @@ use Prim.Native.Nat.{ℕ, zero, suc, _≤_, _<_}
 use native.Mathlib.Omega.{arith}
 use lib.Dec.{eqb, ltb, leb, ltb→lt, le→leb, eqb-refl, lit<}
 use lib.ListN.{length, getD, replicate, length-replicate}
-use Rattle.register.specs.Place.{Record, Place, Memory, _≔_, apply}
-use Rattle.register.specs.Table.{total, address, has, view}
+use Rattle.theory.specs.Place.{Record, Place, Memory, _≔_, apply}
+use Rattle.theory.specs.Table.{total, address, has, view}
 use Rattle.register.specs.Area.{form1, slots-at, desks-at, writer-at, header, current, index, counter}
-use Rattle.register.specs.Area.{slot-field, size, contents, desk-field, writer-field, last, phase, all}
+use Rattle.register.specs.Area.{slot-field, size, contents, desk-field, writer-field, last, phase}
+use Rattle.theory.specs.Lists.{all}
 use Rattle.register.specs.Area.{range-tests, is-area}
 use Rattle.register.specs.Calls.{making, fresh}
-use Rattle.atomic.specs.History.{nothing-yet}
-use Rattle.register.specs.Lists.{none, also}
-use Rattle.register.proofs.Tests.{passed, all-pass, same-either}
-use Rattle.atomic.proofs.Sums.{sum-same, sum-zero, sum-ones}
-use Rattle.register.proofs.Places.{copied-elsewhere, row, row-copied}
-use Rattle.register.proofs.Tables.{view-store, view-here, length-store, Has, AllHas}
+use Rattle.theory.specs.History.{nothing-yet}
+use Rattle.theory.specs.Lists.{none, also}
+use Rattle.theory.proofs.Tests.{passed, all-pass, same-either}
+use Rattle.theory.proofs.Sums.{sum-same, sum-zero, sum-ones}
+use Rattle.theory.proofs.Places.{copied-elsewhere, row, row-copied}
+use Rattle.theory.proofs.Tables.{view-store, view-here, length-store, Has, AllHas}
 use Rattle.register.proofs.Form1.{all-has, has-header, body-slot, body-contents, body-copied}
 use Rattle.atomic.proofs.Balance.{idle}
 use Rattle.atomic.proofs.Counting.{is-bound, bound, bound-away, Counted}
 use Rattle.register.specs.Conditions.{Whole}
-use Rattle.atomic.proofs.Placed.{sound-at-first}
-use Rattle.atomic.proofs.Copying.{not-yet, nothing-written}
+use Rattle.theory.proofs.Placed.{sound-at-first}
+use Rattle.theory.proofs.Copying.{not-yet, nothing-written}
 use Rattle.atomic.proofs.Told.{Told}
 use Rattle.atomic.proofs.StepCounts.{at-rest, no-steps}
 use Rattle.atomic.proofs.Bounds.{Bounded}

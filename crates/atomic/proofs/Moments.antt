@@ -8,14 +8,15 @@ use native.Mathlib.Decide.{ℕ-discrete}
 use native.Mathlib.Omega.{arith}
 use lib.Dec.{eqb}
 use borrow.Author.Tests.{eq-eqb, ne-eqb, lt-ltb, le-ltb}
-use Rattle.register.specs.Place.{Record, Memory, apply}
+use Rattle.theory.specs.Place.{Record, Memory, apply}
 use Rattle.register.specs.Area.{phase, writer-phase, readers, capacity, memory}
 use Rattle.register.specs.Steps.{refuse, Move, read, write, step}
 use Rattle.register.specs.Calls.{stepped}
-use Rattle.atomic.specs.History.{Deed, read-began, write-began, went-on, looked, published, read-ended}
-use Rattle.atomic.specs.History.{write-ended, got, reader-deed, writer-deed, Event, event}
+use Rattle.theory.specs.History.{Deed, read-began, write-began, went-on, looked, published, read-ended}
+use Rattle.theory.specs.History.{write-ended, Event}
+use Rattle.atomic.specs.Seen.{got, reader-deed, writer-deed, event}
 use Rattle.atomic.specs.Complete.{ends-read, leaves-phase, ends-write}
-use Rattle.register.proofs.Tests.{if-less, if-equal, if-true}
+use Rattle.theory.proofs.Tests.{if-less, if-equal, if-true}
 use Rattle.atomic.proofs.Moves.{Does, by}
 use Rattle.register.proofs.Facts.{number-of}
 use Rattle.register.proofs.Facts.{its-plan}

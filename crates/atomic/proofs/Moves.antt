@@ -6,7 +6,7 @@ use mathlib.Core.List.{List, [], _∷_, _++_}
 use Prim.Native.Nat.{ℕ, suc, _-_, _≤_, _<_}
 use lib.Dec.{eqb, ltb}
 use lib.ListN.{length, getD}
-use Rattle.register.specs.Place.{Record, Memory, Store, _≔_, apply}
+use Rattle.theory.specs.Place.{Record, Memory, Store, _≔_, apply}
 use Rattle.register.specs.Area.{current, index, counter, r-start, r-end, size, slot-write-number, contents}
 use Rattle.register.specs.Area.{limit, most-writes}
 use Rattle.register.specs.Area.{phase, last, pos, len, desk-write-number, read-record}
@@ -16,9 +16,9 @@ use Rattle.register.specs.Steps.{sets-phase, unbinds, binds, takes, copies, fin
 use Rattle.register.specs.Steps.{sets-out, clears-end}
 use Rattle.register.specs.Steps.{publishes, freezes}
 use Rattle.register.specs.Calls.{published-writes}
-use Rattle.atomic.specs.History.{Got, Deed, Event, read-began, write-began, went-on, looked, published}
-use Rattle.atomic.specs.History.{read-ended, write-ended}
-use Rattle.register.proofs.Places.{row}
+use Rattle.theory.specs.History.{Got, Deed, Event, read-began, write-began, went-on, looked, published}
+use Rattle.theory.specs.History.{read-ended, write-ended}
+use Rattle.theory.proofs.Places.{row}
 
 abbrev pub by : ℕ → Deed → Event
 by p d = record { who = p; what = d }

@@ -14,19 +14,22 @@ use native.Mathlib.Omega.{arith}
 use lib.Dec.{ltb, ltb→lt, lt→ltb, lit<}
 use lib.ListN.{length, getD}
 use borrow.Author.Tests.{eq-eqb, lt-ltb}
-use Rattle.register.specs.Place.{Memory, apply}
-use Rattle.register.specs.Table.{total, address}
+use Rattle.theory.specs.Place.{Memory, apply}
+use Rattle.theory.specs.Table.{total, address}
 use Rattle.register.specs.Area.{phase, len, finished, desk-write-number, read-record, writer-phase}
 use Rattle.register.specs.Area.{readers, capacity, table, memory}
-use Rattle.register.specs.Calls.{published-writes, age-of, carried-out, stepped, own-tests, is-own, words-from, shown}
-use Rattle.atomic.specs.History.{got, Deed, Event, read-began, write-began, went-on, looked, published}
-use Rattle.atomic.specs.History.{read-ended}
-use Rattle.atomic.specs.History.{write-ended, reader-deed, writer-deed, event}
+use Rattle.register.specs.Calls.{published-writes, age-of, carried-out, stepped, own-tests, is-own, shown}
+use Rattle.theory.specs.Lists.{words-from}
+use Rattle.atomic.specs.Seen.{got}
+use Rattle.theory.specs.History.{Deed, Event, read-began, write-began, went-on, looked, published}
+use Rattle.theory.specs.History.{read-ended}
+use Rattle.theory.specs.History.{write-ended}
+use Rattle.atomic.specs.Seen.{reader-deed, writer-deed, event}
 use Rattle.register.specs.Steps.{Move, read, write, step, mover}
-use Rattle.register.proofs.Tests.{passed, true-passes, all-pass, eqb-same}
-use Rattle.register.specs.Lists.{none, also}
-use Rattle.register.proofs.Places.{row-same}
-use Rattle.register.proofs.Tables.{view-here, words-row}
+use Rattle.theory.proofs.Tests.{passed, true-passes, all-pass, eqb-same}
+use Rattle.theory.specs.Lists.{none, also}
+use Rattle.theory.proofs.Places.{row-same}
+use Rattle.theory.proofs.Tables.{view-here, words-row}
 use Rattle.register.proofs.Form1.{body-read-record}
 use Rattle.atomic.proofs.Moves
 use Rattle.atomic.proofs.Moves.{Does, by, desk-record}

@@ -6,11 +6,11 @@ use Prim.Native.Nat.{ℕ, _≤_}
 use native.Mathlib.Omega.{arith}
 use lib.Dec.{eqb, ltb, nltb→le}
 use borrow.Author.Tests.{ne-eqb, lt-ltb, le-ltb}
-use Rattle.register.specs.Place.{Memory}
+use Rattle.theory.specs.Place.{Memory}
 use Rattle.register.specs.Area.{phase, len, finished, read-record, writer-phase}
-use Rattle.atomic.specs.History.{Deed, Event, read-began, write-began, went-on, looked, published, read-ended}
-use Rattle.atomic.specs.History.{write-ended}
-use Rattle.register.proofs.Tests.{eqb-same}
+use Rattle.theory.specs.History.{Deed, Event, read-began, write-began, went-on, looked, published, read-ended}
+use Rattle.theory.specs.History.{write-ended}
+use Rattle.theory.proofs.Tests.{eqb-same}
 use Rattle.atomic.proofs.Moves
 use Rattle.atomic.proofs.Moves.{Does}
 

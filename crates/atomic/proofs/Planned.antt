@@ -13,7 +13,7 @@ use native.Mathlib.Omega.{arith}
 use lib.Dec.{T, eqb, ltb, ltb→lt}
 use lib.ListN.{length}
 use borrow.Author.Tests.{ne-eqb, lt-ltb, le-ltb}
-use Rattle.register.specs.Place.{Record, Place, Memory, apply, copied}
+use Rattle.theory.specs.Place.{Record, Place, Memory, apply, copied}
 use Rattle.register.specs.Area.{current, index, counter, r-end, size, limit, most-writes}
 use Rattle.register.specs.Area.{phase, last, pos, len, desk-write-number}
 use Rattle.register.specs.Area.{writer-phase, in-hand, writer-pos, writer-len, old-word}
@@ -22,14 +22,14 @@ use Rattle.register.specs.Steps.{Plan, refuse, accept, write-begins, reader-ste
 use Rattle.register.specs.Steps.{begins-write, free}
 use Rattle.register.specs.Steps.{sets-phase, compares, sets-out}
 use Rattle.register.specs.Steps
-use Rattle.atomic.specs.History.{Got, Deed, read-began, write-began, went-on, looked, published, read-ended}
-use Rattle.atomic.specs.History.{write-ended}
+use Rattle.theory.specs.History.{Got, Deed, read-began, write-began, went-on, looked, published, read-ended}
+use Rattle.theory.specs.History.{write-ended}
 use Rattle.register.specs.Steps.{Move, read, write, step, mover, plan}
-use Rattle.register.specs.Lists.{none, also}
-use Rattle.register.proofs.Tests.{if-true, if-equal, if-less, if-at-most, end, next, at-number}
-use Rattle.register.proofs.Tests.{eqb-same, same-either, differ-and-same}
-use Rattle.register.proofs.Tests.{not-differ-and-same}
-use Rattle.register.proofs.Places.{place-equal, apply-append, copied-elsewhere, copied-column}
+use Rattle.theory.specs.Lists.{none, also}
+use Rattle.theory.proofs.Tests.{if-true, if-equal, if-less, if-at-most, end, next, at-number}
+use Rattle.theory.proofs.Tests.{eqb-same, same-either, differ-and-same}
+use Rattle.theory.proofs.Tests.{not-differ-and-same}
+use Rattle.theory.proofs.Places.{place-equal, apply-append, copied-elsewhere, copied-column}
 use Rattle.register.proofs.Form1.{InBody, AllInBody, body-append, body-current, body-slot, body-contents}
 use Rattle.register.proofs.Form1.{body-desk, body-read-record, body-writer, body-write-record, body-copied}
 use Rattle.atomic.proofs.Moves

@@ -13,23 +13,23 @@ use Prim.Native.Nat.{ℕ, suc, _+_, _≤_, _<_}
 use native.Mathlib.Omega.{arith}
 use lib.Dec.{lit<}
 use lib.ListN.{length}
-use Rattle.register.specs.Place.{Record, Memory, apply}
+use Rattle.theory.specs.Place.{Record, Memory, apply}
 use Rattle.register.specs.Area.{is-area}
 use Rattle.register.specs.Area.{memory, undamaged}
 use Rattle.register.specs.Area.{readers, capacity}
 use Rattle.register.specs.Calls.{fresh, answered}
 use Rattle.register.specs.Steps.{Move}
-use Rattle.atomic.specs.History.{Deed, read-began, write-began, went-on, looked, published, read-ended}
-use Rattle.atomic.specs.History.{write-ended}
+use Rattle.theory.specs.History.{Deed, read-began, write-began, went-on, looked, published, read-ended}
+use Rattle.theory.specs.History.{write-ended}
 use Rattle.register.specs.Calls.{after}
-use Rattle.atomic.specs.History.{Accepted, none, then, event, events}
-use Rattle.atomic.specs.History.{Read, History, noted, all-noted, nothing-yet}
+use Rattle.atomic.specs.Seen.{Accepted, none, then, event, events}
+use Rattle.theory.specs.History.{Read, History, noted, all-noted, nothing-yet}
 use Rattle.atomic.specs.Demands.{Run, beginning, now, told, Promise, Demand3}
-use Rattle.register.proofs.Tests.{each-follows}
+use Rattle.theory.proofs.Tests.{each-follows}
 use Rattle.atomic.proofs.Moves.{Does}
 use Rattle.atomic.proofs.Counting.{Counted, keeps-counts}
 use Rattle.atomic.proofs.Clean.{Clean, stays-clean}
-use Rattle.atomic.proofs.Lining.{in-line}
+use Rattle.theory.proofs.Lining.{in-line}
 use Rattle.atomic.proofs.Told.{Told}
 use Rattle.atomic.proofs.Telling.{tells}
 use Rattle.atomic.proofs.Bounds.{ReadExact, Bounded, keeps-bounds}

@@ -6,14 +6,14 @@ use mathlib.Core.List.{_++_}
 use Prim.Native.Nat.{ℕ, suc, _*_, _≤_, _<_}
 use native.Mathlib.Omega.{arith}
 use borrow.Author.Tests.{ne-eqb}
-use Rattle.register.specs.Place.{Memory, apply}
+use Rattle.theory.specs.Place.{Memory, apply}
 use Rattle.register.specs.Area.{current, index, counter, r-start, r-end, size, limit}
 use Rattle.register.specs.Area.{phase, last, pos, len, finished, in-hand, writer-pos}
 use Rattle.register.specs.Area.{old-word}
 use Rattle.register.specs.Steps.{sets-phase, unbinds, binds, takes, copies, finishes, sizes, clears-start}
 use Rattle.register.specs.Steps.{clears-end, freezes}
-use Rattle.atomic.specs.History.{Event}
-use Rattle.register.proofs.Tests.{eqb-same, at-each}
+use Rattle.theory.specs.History.{Event}
+use Rattle.theory.proofs.Tests.{eqb-same, at-each}
 use Rattle.atomic.proofs.Moves
 use Rattle.atomic.proofs.Moves.{Does}
 use Rattle.register.specs.Conditions.{SlotWhole, DeskWhole, Slot, Desk, Whole}

@@ -11,29 +11,29 @@ use native.Mathlib.Omega.{arith}
 use lib.Dec.{eqb, ltb}
 use lib.ListN.{length, getD}
 use borrow.Author.Tests.{ne-eqb, lt-ltb}
-use Rattle.register.specs.Place.{Record, Memory, apply}
+use Rattle.theory.specs.Place.{Record, Memory, apply}
 use Rattle.register.specs.Area.{current, index, size, slot-write-number, contents, phase, last, pos, len}
 use Rattle.register.specs.Area.{desk-write-number, read-record}
 use Rattle.register.specs.Area.{writer-phase, in-hand, writer-pos, writer-len, writes-ended, write-record}
 use Rattle.register.specs.Steps.{sets-phase, unbinds, binds, takes, copies, finishes}
-use Rattle.atomic.specs.History.{Deed, Event, read-began, write-began, went-on, looked, published, read-ended}
-use Rattle.atomic.specs.History.{write-ended}
-use Rattle.atomic.specs.History.{History, noted}
-use Rattle.register.proofs.Tests.{hit, miss, eqb-same, at-each}
-use Rattle.register.proofs.Places.{row, row-same, row-record}
-use Rattle.atomic.proofs.Placed.{sound-noted, began-noted, Needs, where-published}
-use Rattle.atomic.proofs.Placed.{where-closed}
-use Rattle.atomic.proofs.Placed.{length-closed, newest-closed}
+use Rattle.theory.specs.History.{Deed, Event, read-began, write-began, went-on, looked, published, read-ended}
+use Rattle.theory.specs.History.{write-ended}
+use Rattle.theory.specs.History.{History, noted}
+use Rattle.theory.proofs.Tests.{hit, miss, eqb-same, at-each}
+use Rattle.theory.proofs.Places.{row, row-same, row-record}
+use Rattle.theory.proofs.Placed.{sound-noted, began-noted, Needs, where-published}
+use Rattle.theory.proofs.Placed.{where-closed}
+use Rattle.theory.proofs.Placed.{length-closed, newest-closed}
 use Rattle.atomic.proofs.Moves
 use Rattle.atomic.proofs.Moves.{Does, got-now, desk-record, fills-to}
 use Rattle.atomic.proofs.Told.{Reads, Writes, Newest, Told}
 use Rattle.atomic.proofs.Counting.{Counted}
 use Rattle.atomic.proofs.Held.{unheld, hand-apart}
-use Rattle.atomic.proofs.Copying.{Reading, reading-later, not-yet, bound-to-newest, copy-starts, no-words}
-use Rattle.atomic.proofs.Copying.{copy-goes-on, copy-ends}
-use Rattle.atomic.proofs.Copying.{Writing, write-begins, slot-found, words-there, slot-passed, fill-goes-on}
-use Rattle.atomic.proofs.Copying.{fill-ends}
-use Rattle.atomic.proofs.Copying.{published-whole, publishes-it, ends-it}
+use Rattle.theory.proofs.Copying.{Reading, reading-later, not-yet, bound-to-newest, copy-starts, no-words}
+use Rattle.theory.proofs.Copying.{copy-goes-on, copy-ends}
+use Rattle.theory.proofs.Copying.{Writing, write-begins, slot-found, words-there, slot-passed, fill-goes-on}
+use Rattle.theory.proofs.Copying.{fill-ends}
+use Rattle.theory.proofs.Copying.{published-whole, publishes-it, ends-it}
 
 high : 4 < 7
 high = omega arith

@@ -5,14 +5,14 @@ use mathlib.Core.Path.{_≡_}
 use mathlib.Core.List.{List}
 use Prim.Native.Nat.{ℕ, _≤_, _<_}
 use lib.ListN.{length}
-use Rattle.register.specs.Place.{Record, Memory}
+use Rattle.theory.specs.Place.{Record, Memory}
 use Rattle.register.specs.Area.{current, index, size, slot-write-number, contents}
 use Rattle.register.specs.Area.{phase, last, pos, len, desk-write-number, read-record}
 use Rattle.register.specs.Area.{writer-phase, in-hand, writer-pos, writer-len, writes-ended, write-record}
-use Rattle.atomic.specs.History.{Write, History}
-use Rattle.register.proofs.Places.{row}
-use Rattle.atomic.proofs.Placed.{Sound, newest}
-use Rattle.atomic.proofs.Copying.{Reading, Writing}
+use Rattle.theory.specs.History.{Write, History}
+use Rattle.theory.proofs.Places.{row}
+use Rattle.theory.proofs.Placed.{Sound, newest}
+use Rattle.theory.proofs.Copying.{Reading, Writing}
 
 module _ (n : ℕ) (first : Record) where
   abbrev pub Reads : Memory → History → ℕ → Type 0

@@ -6,12 +6,12 @@ use mathlib.Core.List.{List, [], _∷_, map}
 use Prim.Native.Nat.{ℕ, suc, _≤_}
 use lib.Dec.{eqb, ltb}
 use lib.ListN.{length}
-use Rattle.register.specs.Place.{Record}
+use Rattle.theory.specs.Place.{Record}
 use Rattle.register.specs.Area.{readers, memory, desk-write-number, writer-phase}
 use Rattle.register.specs.Steps.{Move, read, write, step, mover}
 use Rattle.register.specs.Calls.{answered, stepped, is-own, shown}
-use Rattle.atomic.specs.History.{Read, Write}
-use Rattle.register.specs.Lists.{Each}
+use Rattle.theory.specs.History.{Read, Write}
+use Rattle.theory.specs.Lists.{Each}
 use Rattle.atomic.specs.Demands.{Run, beginning, told}
 
 -- ---- the moves of a run

@@ -7,10 +7,10 @@ use mathlib.Core.List.{List, [], _∷_}
 use Prim.Native.Nat.{ℕ, suc, _+_, _≤_, _<_}
 use lib.Dec.{eqb, ltb, leb}
 use lib.ListN.{length, getD}
-use Rattle.register.specs.Lists.{Each}
-use Rattle.register.specs.Table.{Untouched}
-use Rattle.register.specs.Place.{Record, Store}
-use Rattle.register.specs.Table.{has}
+use Rattle.theory.specs.Lists.{Each}
+use Rattle.theory.specs.Table.{Untouched}
+use Rattle.theory.specs.Place.{Record, Store}
+use Rattle.theory.specs.Table.{has}
 use Rattle.register.specs.Area.{phase, len, desk-write-number, writer-phase, writer-len, writes-ended}
 use Rattle.register.specs.Area.{most-writes}
 use Rattle.register.specs.Area.{readers, capacity, table, is-area, memory, undamaged}
@@ -19,8 +19,9 @@ use Rattle.register.specs.Calls.{Answer, made, answered, read-begun, write-begu
 use Rattle.register.specs.Calls.{after}
 use Rattle.register.specs.Conditions.{word}
 use Rattle.register.specs.Stands.{desk, writer}
-use Rattle.atomic.specs.History.{Accepted, Write, History, history}
-use Rattle.atomic.specs.Line.{Line}
+use Rattle.atomic.specs.Seen.{Accepted, history}
+use Rattle.theory.specs.History.{Write, History}
+use Rattle.theory.specs.Line.{Line}
 
 -- ---- runs
 

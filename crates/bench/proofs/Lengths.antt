@@ -15,8 +15,8 @@ use lib.Dec.{ltb}
 use lib.ListN.{length, take, length-append}
 use Rattle.register.specs.Area.{current, memory}
 use Rattle.register.specs.Calls.{Answer, shown}
-use Rattle.atomic.specs.History.{got}
-use Rattle.register.proofs.Tests.{if-true, if-less}
+use Rattle.atomic.specs.Seen.{got}
+use Rattle.theory.proofs.Tests.{if-true, if-less}
 use Rattle.runfile.specs.RunFile.{readers, capacity, moves, is-run-file, Written, written}
 use Rattle.runfile.proofs.Files.{file-facts}
 use Rattle.text.specs.Lines.{Text, blank, newline, digits-within, decimal, behind-blanks, line}

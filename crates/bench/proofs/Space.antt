@@ -7,7 +7,7 @@ use native.Mathlib.Nat.{mul-le-mul, le-trans}
 use native.Mathlib.Omega.{arith}
 use lib.ListN.{length, take}
 use lib.Seq.{length-take-le}
-use Rattle.register.specs.Table.{total}
+use Rattle.theory.specs.Table.{total}
 use Rattle.register.specs.Area.{form1}
 use Rattle.area.specs.Words.{layout-of}
 use Rattle.area.specs.declared.Layout.{Layout}

@@ -1,6 +1,6 @@
 -- How many words and bytes are enough for any run file. Assumes nothing.
 use Prim.Native.Nat.{ℕ}
-use Rattle.register.specs.Table.{total}
+use Rattle.theory.specs.Table.{total}
 use Rattle.register.specs.Area.{form1}
 
 -- the words of the largest area of a run: N 8, C 32

@@ -18,7 +18,7 @@ ghost use mathlib.Core.Path.{_≡_};
 ghost use Prim.Native.Nat.{_≤_};
 ghost use lib.ListN.{length, take};
 ghost use Rattle.io.specs.Counts.{Counts};
-ghost use Rattle.register.specs.Table.{total};
+ghost use Rattle.theory.specs.Table.{total};
 ghost use Rattle.register.specs.Area.{form1};
 ghost use Rattle.runfile.specs.RunFile.{readers, capacity, starting-length, is-run-file};
 ghost use Rattle.runfile.specs.RunFile.{moves as RunFile·moves};

@@ -9,7 +9,7 @@ use mathlib.Core.List.{List, [], _∷_, _++_}
 use Prim.Native.Nat.{ℕ, _+_, _≤_, _<_}
 use native.Mathlib.Numerals.{add-one}
 use borrow.Author.Tests.{eq-eqb, ne-eqb, lt-ltb, le-ltb}
-use Rattle.register.specs.Place.{Memory, _≔_}
+use Rattle.theory.specs.Place.{Memory, _≔_}
 use Rattle.register.specs.Area.{current, index, counter, r-end, last}
 use Rattle.register.specs.Steps.{sets-phase, reader-1, reader-2, reader-3}
 use Rattle.area.specs.Words.{words-after}

@@ -7,8 +7,8 @@ use Prim.Native.Nat.{ℕ, _≤_}
 use borrow.Author.Tests.{eq-eqb, ne-eqb}
 use lib.Dec.{eqb, leb}
 use lib.ListN.{length}
-use Rattle.register.specs.Place.{Record}
-use Rattle.register.specs.Table.{total}
+use Rattle.theory.specs.Place.{Record}
+use Rattle.theory.specs.Table.{total}
 use Rattle.register.specs.Area.{form1, known-form, in-range}
 use Rattle.register.specs.Steps.{_else_, unless}
 use Rattle.register.specs.Calls.{Answer, refused, fresh, made}

@@ -8,8 +8,8 @@ use native.Mathlib.Omega.{arith}
 use borrow.Author.Tests.{eq-eqb, ne-eqb, le-leb}
 use lib.Dec.{eqb, leb}
 use lib.ListN.{length}
-use Rattle.register.specs.Place.{Record}
-use Rattle.register.specs.Table.{total}
+use Rattle.theory.specs.Place.{Record}
+use Rattle.theory.specs.Table.{total}
 use Rattle.register.specs.Area.{form1, known-form, in-range}
 use Rattle.register.specs.Calls.{Answer, made}
 use Rattle.area.specs.declared.Layout.{Layout}

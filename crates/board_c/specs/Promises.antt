@@ -4,7 +4,7 @@ use mathlib.Core.Logic.{_≢_}
 use mathlib.Core.List.{List}
 use Prim.Native.Nat.{ℕ, _≤_}
 use lib.ListN.{length}
-use Rattle.register.specs.Place.{Record}
+use Rattle.theory.specs.Place.{Record}
 use Rattle.register.specs.Calls.{made}
 use Rattle.board_c.specs.Sizes.{words-of}
 

@@ -1,7 +1,7 @@
 -- How many words an area has. Assumes nothing.
 use mathlib.Core.Bool.{cond, _&&_}
 use Prim.Native.Nat.{ℕ}
-use Rattle.register.specs.Table.{total}
+use Rattle.theory.specs.Table.{total}
 use Rattle.register.specs.Area.{form1, known-form, in-range}
 
 -- the total T, and 0 where making refuses the numbers themselves

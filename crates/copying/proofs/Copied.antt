@@ -14,14 +14,14 @@ use native.Mathlib.Numerals.{add-one}
 use native.Mathlib.Omega.{arith}
 use lib.Dec.{eqb, ltb}
 use borrow.Author.Tests.{eq-eqb, ne-eqb, lt-ltb}
-use Rattle.register.specs.Place.{Memory, Store, _≔_, apply}
+use Rattle.theory.specs.Place.{Memory, Store, _≔_, apply}
 use Rattle.register.specs.Area.{form1, size, slot-write-number, contents}
 use Rattle.register.specs.Area.{phase, last, pos, len, desk-write-number, finished, read-record}
 use Rattle.register.specs.Steps.{accept, sets-phase, takes, copies, finishes, reader-4, reader-5}
 use Rattle.register.specs.Area.{writer-phase, writes-ended, most-writes}
 use Rattle.register.specs.Calls.{age-of}
-use Rattle.register.specs.Lists.{none, also}
-use Rattle.register.proofs.Tables.{AllHas, view-store}
+use Rattle.theory.specs.Lists.{none, also}
+use Rattle.theory.proofs.Tables.{AllHas, view-store}
 use Rattle.register.proofs.Form1.{body-desk, body-read-record}
 use Rattle.area.specs.Words.{Sized, memory-of, words-after}
 use Rattle.area.specs.declared.Layout.{Layout}

@@ -11,7 +11,7 @@ use Prim.Native.Nat.{ℕ, _+_}
 use native.Mathlib.Numerals.{add-one}
 use lib.Dec.{eqb}
 use borrow.Author.Tests.{eq-eqb, ne-eqb}
-use Rattle.register.specs.Place.{_≔_}
+use Rattle.theory.specs.Place.{_≔_}
 use Rattle.register.specs.Area.{r-start, r-end, size, slot-write-number, contents}
 use Rattle.register.specs.Area.{writer-phase, last-slot, in-hand, writer-pos, writer-len, writes-ended, write-record}
 use Rattle.register.specs.Steps.{accept, looks, free, picks, passes, fills, sizes}

@@ -4,7 +4,7 @@ use mathlib.Core.Path.{_≡_, ap, _∙_}
 use mathlib.Core.List.{List, [], _∷_}
 use Prim.Native.Nat.{ℕ, _≤_}
 use lib.ListN.{length, set, replicate}
-use Rattle.register.specs.Place.{Record, _≔_, copied}
+use Rattle.theory.specs.Place.{Record, _≔_, copied}
 use Rattle.register.specs.Area.{size, contents}
 use Rattle.register.specs.Calls.{fresh}
 use Rattle.area.specs.Words.{Laid, Sized, words-after}

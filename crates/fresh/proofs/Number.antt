@@ -6,9 +6,9 @@ use Prim.Native.Nat.{ℕ, _≤_, _<_}
 use native.Mathlib.Omega.{arith}
 use borrow.Author.Tests.{eq-eqb, ne-eqb, le-leb, lt-leb}
 use lib.Dec.{eqb, leb, eqb→eq, leb→le}
-use Rattle.register.specs.Table.{total}
+use Rattle.theory.specs.Table.{total}
 use Rattle.register.specs.Area.{form1, known-form, in-range}
-use Rattle.register.proofs.Tests.{true-passes}
+use Rattle.theory.proofs.Tests.{true-passes}
 use Rattle.area.specs.declared.Layout.{Layout}
 use Rattle.area.specs.Words.{layout-of}
 use Rattle.area.proofs.Taken.{Taken, not-taken, passed-taken}

@@ -4,8 +4,8 @@ use mathlib.Core.List.{List, [], _∷_}
 use Prim.Native.Nat.{ℕ}
 use lib.Dec.{eqb, leb}
 use lib.ListN.{length}
-use Rattle.register.specs.Place.{Record, Store, _≔_, copied}
-use Rattle.register.specs.Table.{total}
+use Rattle.theory.specs.Place.{Record, Store, _≔_, copied}
+use Rattle.theory.specs.Table.{total}
 use Rattle.register.specs.Area.{form1, slots-at, desks-at, writer-at, header, current, size, contents}
 use Rattle.register.specs.Area.{known-form, in-range}
 use Rattle.register.specs.Steps.{_else_, unless}

@@ -9,8 +9,9 @@ use native.Mathlib.Nat.{mul-le-mul-right}
 use native.Mathlib.Omega.{arith}
 use lib.Dec.{eqb}
 use lib.ListN.{length, take, drop}
-use Rattle.register.specs.Place.{Record}
-use Rattle.register.specs.Area.{readers, capacity, len, all}
+use Rattle.theory.specs.Place.{Record}
+use Rattle.register.specs.Area.{readers, capacity, len}
+use Rattle.theory.specs.Lists.{all}
 use Rattle.register.specs.Calls.{is-own, shown}
 use Rattle.area.specs.declared.Layout.{Layout}
 use Rattle.area.specs.Words.{layout-of, desk-word, memory-of}

@@ -6,12 +6,13 @@ use mathlib.Core.Bool.{Bool, true, false, _&&_, and-true}
 use mathlib.Core.List.{List}
 use Prim.Native.Nat.{ℕ, _≤_, _<_}
 use lib.Dec.{T, eqb, ltb→lt}
-use Rattle.register.specs.Place.{Memory}
-use Rattle.register.specs.Area.{phase, finished, all, readers, capacity, is-area, undamaged}
+use Rattle.theory.specs.Place.{Memory}
+use Rattle.register.specs.Area.{phase, finished, readers, capacity, is-area, undamaged}
+use Rattle.theory.specs.Lists.{all}
 use Rattle.register.specs.Calls.{own-tests, is-own}
-use Rattle.register.specs.Lists.{Each, also}
+use Rattle.theory.specs.Lists.{Each, also}
 use Rattle.register.specs.Conditions.{Whole}
-use Rattle.register.proofs.Tests.{passed, true-passes, each-passes}
+use Rattle.theory.proofs.Tests.{passed, true-passes, each-passes}
 use Rattle.register.proofs.Facts.{area-facts, whole-area}
 use Rattle.area.specs.declared.Layout.{Layout}
 use Rattle.area.specs.Words.{layout-of, Sized, memory-of}

@@ -3,8 +3,8 @@ use mathlib.Core.Bool.{Bool, cond}
 use mathlib.Core.List.{List, [], _∷_}
 use Prim.Native.Nat.{ℕ}
 use lib.Dec.{eqb, ltb}
-use Rattle.register.specs.Place.{Memory}
-use Rattle.register.specs.Table.{address}
+use Rattle.theory.specs.Place.{Memory}
+use Rattle.theory.specs.Table.{address}
 use Rattle.register.specs.Area.{table, memory, phase, len, finished, read-record}
 use Rattle.register.specs.Calls.{is-own}
 use Rattle.place.specs.declared.RecordPlace.{RecordPlace}

@@ -3,7 +3,7 @@ use mathlib.Core.Path.{_≡_}
 use mathlib.Core.List.{List}
 use Prim.Native.Nat.{ℕ, _+_, _≤_}
 use lib.ListN.{length, take, drop}
-use Rattle.register.specs.Place.{Record}
+use Rattle.theory.specs.Place.{Record}
 use Rattle.register.specs.Calls.{shown}
 use Rattle.place.specs.Places.{nowhere, place-of}
 

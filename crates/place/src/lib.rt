@@ -3,7 +3,7 @@ use area::Layout;
 use area::fields;
 use area::header;
 ghost use mathlib.Core.Path.{_≡_};
-ghost use Rattle.register.specs.Area.{all};
+ghost use Rattle.theory.specs.Lists.{all};
 ghost use Rattle.area.specs.Words.{Sized, memory-of};
 ghost use Rattle.place.specs.Places.{rest-tests, nowhere, place-of};
 

@@ -5,7 +5,7 @@ use mathlib.Core.Bool.{true, false}
 use mathlib.Core.List.{List}
 use Prim.Native.Nat.{ℕ, _+_, _*_}
 use native.Mathlib.Numerals.{add-one}
-use Rattle.register.specs.Place.{_≔_}
+use Rattle.theory.specs.Place.{_≔_}
 use Rattle.register.specs.Area.{current, index, counter, r-start, r-end}
 use Rattle.register.specs.Area.{writer-phase, last-slot, in-hand, old-word, writes-ended}
 use Rattle.register.specs.Steps.{accept, clears-start, clears-end, publishes, freezes}

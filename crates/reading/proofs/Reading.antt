@@ -8,7 +8,7 @@ use mathlib.Core.List.{List, [], _∷_}
 use Prim.Native.Nat.{ℕ, _≤_, _<_}
 use lib.ListN.{List·getD-eq-default}
 use borrow.Author.Tests.{eq-eqb, ne-eqb, lt-ltb, le-ltb}
-use Rattle.register.specs.Place.{Memory}
+use Rattle.theory.specs.Place.{Memory}
 use Rattle.register.specs.Area.{phase}
 use Rattle.register.specs.Steps.{Plan, refuse, at-phase, sets-phase, read-begins, reader-step}
 use Rattle.register.specs.Steps.{reader-1, reader-2, reader-3, reader-4, reader-5}

@@ -8,7 +8,7 @@ use Rattle.register.specs.Area.{writes-ended, most-writes, memory}
 use Rattle.register.specs.Area.{is-area, slot-sound, desk-sound, writer-sound, undamaged}
 use Rattle.register.specs.Steps.{reader-step, writer-step, Move, read, step}
 use Rattle.register.specs.Calls.{carried-out, answered, after, is-own, shown}
-use Rattle.register.specs.Lists.{Each, none, also}
+use Rattle.theory.specs.Lists.{Each, none, also}
 use Rattle.register.proofs.SmallRuns.{Row, row-of, said, answer-to, areaP1, written}
 
 -- ---- a read beside a write

@@ -6,17 +6,18 @@ use Prim.Native.Nat.{ℕ, _+_, _*_}
 use native.Mathlib.Omega.{arith}
 use lib.Dec.{eqb, leb, ltb}
 use lib.ListN.{length, take, drop, getD}
-use Rattle.register.specs.Place.{Record}
-use Rattle.register.specs.Table.{address, total, view, store}
+use Rattle.theory.specs.Place.{Record}
+use Rattle.theory.specs.Table.{address, total, view, store}
 use Rattle.register.specs.Area.{form1, in-range, known-form, table, read-record}
 use Rattle.register.specs.Area.{len, memory, readers, is-area, undamaged}
 use Rattle.register.specs.Conditions.{word}
 use Rattle.register.specs.Steps.{Plan, refuse, accept, Move, mover}
-use Rattle.register.specs.Calls.{Answer, made, shown, is-own, words-from}
+use Rattle.register.specs.Calls.{Answer, made, shown, is-own}
+use Rattle.theory.specs.Lists.{words-from}
 use Rattle.register.specs.Calls.{refused, answered, carried-out, age-of}
 use Rattle.register.specs.Numbers.{OwnToShow}
 use Rattle.register.specs.Answers.{Shows, Answers}
-use Rattle.register.proofs.Tests.{if-true}
+use Rattle.theory.proofs.Tests.{if-true}
 use Rattle.register.proofs.Facts.{own-is, its-plan}
 use Rattle.register.proofs.Stands.{words-stand}
 

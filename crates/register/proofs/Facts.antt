@@ -12,14 +12,15 @@ use native.Mathlib.Omega.{arith}
 use lib.Dec.{T, eqb, eqb→eq, leb→le, le→leb, ltb→lt, lt→ltb}
 use lib.ListN.{length}
 use borrow.Author.Tests.{eq-eqb}
-use Rattle.register.specs.Table.{total}
+use Rattle.theory.specs.Table.{total}
 use Rattle.register.specs.Area.{slots-at, desks-at, writer-at, range-tests, in-range, readers, capacity}
-use Rattle.register.specs.Area.{table, area-tests, is-area, undamaged, memory, all, memory-tests}
+use Rattle.register.specs.Area.{table, area-tests, is-area, undamaged, memory, memory-tests}
+use Rattle.theory.specs.Lists.{all}
 use Rattle.register.specs.Conditions.{InRange, word, AnArea, Undamaged, Whole}
 use Rattle.register.specs.Calls.{own-tests, is-own}
 use Rattle.register.specs.Numbers.{writer, OwnToShow}
-use Rattle.register.specs.Lists.{Each, none, also}
-use Rattle.register.proofs.Tests.{passed, true-passes, each-passes, all-pass}
+use Rattle.theory.specs.Lists.{Each, none, also}
+use Rattle.theory.proofs.Tests.{passed, true-passes, each-passes, all-pass}
 use Rattle.register.specs.Steps.{Plan, refuse, accept, Move, plan}
 use Rattle.register.proofs.Whole.{whole-of, of-whole}
 

@@ -5,14 +5,14 @@ use mathlib.Core.List.{List, [], _∷_, _++_}
 use Prim.Native.Nat.{ℕ, suc, _+_, _≤_, _<_}
 use native.Mathlib.Omega.{arith}
 use lib.ListN.{length}
-use Rattle.register.specs.Place.{Record, Place, Store, copied}
-use Rattle.register.specs.Table.{address}
+use Rattle.theory.specs.Place.{Record, Place, Store, copied}
+use Rattle.theory.specs.Table.{address}
 use Rattle.register.specs.Area.{form1, header, current, slot-field, contents, desk-field, read-record}
 use Rattle.register.specs.Area.{writer-field, write-record}
-use Rattle.register.specs.Lists.{Each, none, also}
-use Rattle.register.specs.Table.{Untouched}
-use Rattle.register.proofs.Tests.{each-follows}
-use Rattle.register.proofs.Tables.{Has, AllHas}
+use Rattle.theory.specs.Lists.{Each, none, also}
+use Rattle.theory.specs.Table.{Untouched}
+use Rattle.theory.proofs.Tests.{each-follows}
+use Rattle.theory.proofs.Tables.{Has, AllHas}
 
 module _ (n c : ℕ) where
   -- a place of the area behind its head, which is words 0 to 6

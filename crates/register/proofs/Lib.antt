@@ -3,9 +3,6 @@ pub mod SmallRuns
 mod Shortcuts
 mod Touches
 mod AgeRuns
-pub mod Tests
-pub mod Places
-pub mod Tables
 mod Whole
 pub mod Form1
 pub mod Rows

@@ -11,8 +11,8 @@ use native.Mathlib.Omega.{arith}
 use lib.Dec.{eqb, leb, ltb, eqb→eq}
 use lib.ListN.{length}
 use borrow.Author.Tests.{eqb-false}
-use Rattle.register.specs.Place.{Record, Memory}
-use Rattle.register.specs.Table.{total}
+use Rattle.theory.specs.Place.{Record, Memory}
+use Rattle.theory.specs.Table.{total}
 use Rattle.register.specs.Area.{form1, in-range, known-form}
 use Rattle.register.specs.Area.{readers, capacity, is-area, undamaged, memory}
 use Rattle.register.specs.Area.{current, counter, r-start, r-end, size, phase, last, pos, len}
@@ -25,9 +25,9 @@ use Rattle.register.specs.Calls.{refused, made, carried-out, answered, r
 use Rattle.register.specs.Numbers.{Row, _if_, Given, make-rows, Idle}
 use Rattle.register.specs.Numbers.{reader, writer, LastNotFree, Overfull, gone}
 use Rattle.register.specs.Numbers.{bound, read-rows, write-rows, step-rows, Numbers}
-use Rattle.register.proofs.Tests.{true-passes, both}
-use Rattle.register.proofs.Tests.{end, next, at-number, if-true}
-use Rattle.register.proofs.Tests.{if-equal, if-less, differ-and-same, not-differ-and-same}
+use Rattle.theory.proofs.Tests.{true-passes, both}
+use Rattle.theory.proofs.Tests.{end, next, at-number, if-true}
+use Rattle.theory.proofs.Tests.{if-equal, if-less, differ-and-same, not-differ-and-same}
 use Rattle.register.proofs.Facts.{its-plan, range-facts}
 use Rattle.register.proofs.Facts.{number-of}
 use Rattle.register.proofs.Rows.{Says, unless-not, unless-below, unless-at-most, unless-equal, row}

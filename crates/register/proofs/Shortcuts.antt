@@ -8,7 +8,7 @@ use Rattle.register.specs.Area.{is-area, slot-sound, desk-sound, writer-
 use Rattle.register.specs.Steps.{reader-step, writer-step, Move, read, write, step}
 use Rattle.register.specs.Calls.{fresh, carried-out, answered, is-own, shown}
 use Rattle.register.specs.Calls.{after}
-use Rattle.register.specs.Lists.{Each, none, also}
+use Rattle.theory.specs.Lists.{Each, none, also}
 use Rattle.register.proofs.SmallRuns.{Row, row-of, said, answer-to, current-word}
 
 -- one reader, records of at most one word; the starting record is 5, the writes are 6 and 7

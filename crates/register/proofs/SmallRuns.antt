@@ -4,14 +4,14 @@ use mathlib.Core.Bool.{Bool, true, false}
 use mathlib.Core.List.{List, [], _∷_, _++_}
 use Prim.Native.Nat.{ℕ}
 use lib.ListN.{getD, take, replicate}
-use Rattle.register.specs.Place.{Record}
-use Rattle.register.specs.Table.{total}
+use Rattle.theory.specs.Place.{Record}
+use Rattle.theory.specs.Table.{total}
 use Rattle.register.specs.Area.{form1, current, writer-phase, in-hand}
 use Rattle.register.specs.Area.{is-area, slot-sound, desk-sound, writer-sound}
 use Rattle.register.specs.Area.{undamaged, memory}
 use Rattle.register.specs.Steps.{reader-step, writer-step, Move, read, write, step}
 use Rattle.register.specs.Calls.{Answer, fresh, carried-out, answered, is-own, shown}
-use Rattle.register.specs.Lists.{Each, none, also}
+use Rattle.theory.specs.Lists.{Each, none, also}
 use Rattle.register.specs.Calls.{after}
 
 -- the answer to a move after some others

@@ -4,8 +4,8 @@ use mathlib.Core.List.{List, [], _∷_, map}
 use Prim.Native.Nat.{ℕ, _+_, _<_}
 use native.Mathlib.Omega.{arith}
 use lib.ListN.{getD}
-use Rattle.register.specs.Place.{Place}
-use Rattle.register.specs.Table.{address}
+use Rattle.theory.specs.Place.{Place}
+use Rattle.theory.specs.Table.{address}
 use Rattle.register.specs.Area.{current, slot-field, contents, desk-field}
 use Rattle.register.specs.Area.{read-record, writer-field, write-record}
 use Rattle.register.specs.Area.{r-start, r-end, size, slot-write-number, phase, last, pos, len}
@@ -13,7 +13,7 @@ use Rattle.register.specs.Area.{desk-write-number, finished, writer-phas
 use Rattle.register.specs.Area.{writer-len, old-word, writes-ended, readers, capacity, table, memory}
 use Rattle.register.specs.Conditions.{word}
 use Rattle.register.specs.Stands.{slot, desk, writer, WordsStand}
-use Rattle.register.proofs.Tables.{Has, view-here}
+use Rattle.theory.proofs.Tables.{Has, view-here}
 use Rattle.register.proofs.Form1.{body-current, body-slot, body-contents, body-desk, body-read-record}
 use Rattle.register.proofs.Form1.{body-writer, body-write-record}
 

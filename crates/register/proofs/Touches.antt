@@ -10,7 +10,7 @@ use lib.ListN.{replicate}
 use Rattle.register.specs.Area.{is-area, slot-sound, desk-sound, writer-sound, undamaged}
 use Rattle.register.specs.Steps.{reader-step, writer-step, Move, read, write, step}
 use Rattle.register.specs.Calls.{fresh, carried-out, answered}
-use Rattle.register.specs.Lists.{Each, none, also}
+use Rattle.theory.specs.Lists.{Each, none, also}
 use Rattle.register.proofs.SmallRuns.{flag, Row, row-of}
 
 -- two readers, records of at most three words

@@ -9,17 +9,18 @@ use Prim.Native.Nat.{ℕ, _+_}
 use native.Mathlib.Omega.{arith}
 use lib.Dec.{T, eqb, leb, ltb, eqb→eq, leb→le, le→leb, ltb→lt, lt→ltb}
 use borrow.Author.Tests.{eq-eqb, ne-eqb}
-use Rattle.register.specs.Place.{Memory}
+use Rattle.theory.specs.Place.{Memory}
 use Rattle.register.specs.Area.{current, index, counter, limit}
 use Rattle.register.specs.Area.{phase}
 use Rattle.register.specs.Area.{writer-phase, writer-pos, old-word}
-use Rattle.register.specs.Area.{all, word-sound, slot-sound, desk-sound, writer-sound}
+use Rattle.theory.specs.Lists.{all}
+use Rattle.register.specs.Area.{word-sound, slot-sound, desk-sound, writer-sound}
 use Rattle.register.specs.Area.{slot-tests, desk-tests, writer-tests, memory-tests}
 use Rattle.register.specs.Conditions.{WordWhole, Slot, Desk, Writer, Whole}
-use Rattle.register.specs.Lists.{Each, none, also}
-use Rattle.register.proofs.Tests.{both, joined, each-passes, all-pass}
-use Rattle.register.proofs.Tests.{where-passed, unless-passed, where-failed, unless-failed, each-of, of-each}
-use Rattle.register.proofs.Tests.{true-passes}
+use Rattle.theory.specs.Lists.{Each, none, also}
+use Rattle.theory.proofs.Tests.{both, joined, each-passes, all-pass}
+use Rattle.theory.proofs.Tests.{where-passed, unless-passed, where-failed, unless-failed, each-of, of-each}
+use Rattle.theory.proofs.Tests.{true-passes}
 
 -- ---- from the test
 

@@ -5,7 +5,7 @@ use mathlib.Core.List.{List}
 use Prim.Native.Nat.{ℕ, _+_, _*_}
 use lib.Dec.{ltb}
 use lib.ListN.{take, drop}
-use Rattle.register.specs.Place.{Record}
+use Rattle.theory.specs.Place.{Record}
 use Rattle.register.specs.Conditions.{word}
 use Rattle.register.specs.Steps.{Move, mover}
 use Rattle.register.specs.Calls.{made, answered, shown}

@@ -4,8 +4,9 @@ use mathlib.Core.List.{List, [], _∷_}
 use Prim.Native.Nat.{ℕ, zero, suc, _+_, _/_, _%_}
 use lib.Dec.{eqb, leb, ltb}
 use lib.ListN.{length, getD}
-use Rattle.register.specs.Place.{Place, Memory}
-use Rattle.register.specs.Table.{Table, base, total, view}
+use Rattle.theory.specs.Lists.{all, every}
+use Rattle.theory.specs.Place.{Place, Memory}
+use Rattle.theory.specs.Table.{Table, base, total, view}
 
 -- ---- the table: part 0 is the header, 1 the slots, 2 the reader desks, 3 the writer desk
 
@@ -130,11 +131,6 @@ write-record i = record { part = 3; field = 7; row = 0; column = i }
 
 -- ---- numbers
 
--- all tests of a list pass
-abbrev pub all : List Bool → Bool
-all [] = true
-all (b ∷ l) = b && all l
-
 -- N is 1 to 64, C is 1 to 256
 abbrev pub range-tests : ℕ → ℕ → List Bool
 range-tests n c = leb 1 n ∷ leb n 64 ∷ leb 1 c ∷ leb c 256 ∷ []
@@ -181,11 +177,6 @@ unfoldable pub is-area : List ℕ → Bool
 is-area a = all (area-tests a)
 
 -- ---- test 2: undamaged
-
--- the test passes for each of the k numbers from i on
-abbrev pub every : ℕ → ℕ → (ℕ → Bool) → Bool
-every zero i test = true
-every (suc k) i test = test i && every k (suc i) test
 
 -- the current word, and the old word
 abbrev pub word-sound : ℕ → ℕ → Bool

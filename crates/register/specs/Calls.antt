@@ -3,13 +3,15 @@ use mathlib.Core.Bool.{Bool, false, cond, _&&_}
 use mathlib.Core.List.{List, [], _∷_}
 use Prim.Native.Nat.{ℕ, _+_, _-_}
 use lib.Dec.{eqb, ltb, leb}
-use lib.ListN.{length, take, drop, replicate}
-use Rattle.register.specs.Place.{Record, Memory, Store, _≔_, copied}
-use Rattle.register.specs.Table.{total, address, view, store}
+use lib.ListN.{length, replicate}
+use Rattle.theory.specs.Lists.{words-from}
+use Rattle.theory.specs.Place.{Record, Memory, Store, _≔_, copied}
+use Rattle.theory.specs.Table.{total, address, view, store}
 use Rattle.register.specs.Area.{form1, slots-at, desks-at, writer-at, header, current, size, contents}
 use Rattle.register.specs.Area.{phase, len, desk-write-number, finished, read-record}
 use Rattle.register.specs.Area.{writer-phase, writes-ended}
-use Rattle.register.specs.Area.{all, in-range, known-form, readers, capacity, table, is-area, memory, undamaged}
+use Rattle.theory.specs.Lists.{all}
+use Rattle.register.specs.Area.{in-range, known-form, readers, capacity, table, is-area, memory, undamaged}
 use Rattle.register.specs.Steps.{_else_, unless}
 use Rattle.register.specs.Steps.{Plan, refuse, accept, Move, read, write, step, mover, plan}
 
@@ -95,10 +97,6 @@ own-tests a r =
 
 unfoldable pub is-own : List ℕ → ℕ → Bool
 is-own a r = all (own-tests a r)
-
--- len words of the area, from an address on
-abbrev pub words-from : List ℕ → ℕ → ℕ → Record
-words-from a i k = take k (drop i a)
 
 -- the len words in that reader's desk, or the caller's whole default
 unfoldable pub shown : List ℕ → ℕ → Record → Record

@@ -1,8 +1,5 @@
 -- Document 01, with the age of document 02's request 1, as definitions, in the order in which to read them.
 -- Assumes nothing.
-pub mod Lists
-pub mod Place
-pub mod Table
 pub mod Area
 pub mod Conditions
 pub mod Steps

@@ -7,7 +7,7 @@ use mathlib.Core.Bool.{true}
 use mathlib.Core.List.{List, [], _∷_}
 use Prim.Native.Nat.{ℕ, _+_, _%_, _≤_, _<_}
 use lib.ListN.{length}
-use Rattle.register.specs.Place.{Record}
+use Rattle.theory.specs.Place.{Record}
 use Rattle.register.specs.Area.{current, r-start, r-end, phase}
 use Rattle.register.specs.Area.{last, finished, writer-phase, last-slot}
 use Rattle.register.specs.Area.{in-hand, writes-ended, memory}

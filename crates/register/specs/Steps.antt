@@ -4,7 +4,7 @@ use mathlib.Core.List.{List, [], _∷_, _++_}
 use Prim.Native.Nat.{ℕ, suc, _*_}
 use lib.Dec.{eqb, ltb, leb}
 use lib.ListN.{length, getD}
-use Rattle.register.specs.Place.{Record, Memory, Store, _≔_, copied}
+use Rattle.theory.specs.Place.{Record, Memory, Store, _≔_, copied}
 use Rattle.register.specs.Area.{current, index, counter, r-start, r-end, size, slot-write-number, contents}
 use Rattle.register.specs.Area.{phase, last, pos, len, desk-write-number, finished, read-record}
 use Rattle.register.specs.Area.{writer-phase, last-slot, in-hand, writer-pos, writer-len, old-word}

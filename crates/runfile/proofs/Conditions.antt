@@ -11,9 +11,9 @@ use Prim.Native.Nat.{ℕ}
 use native.Mathlib.Decide.{ℕ-discrete}
 use lib.Dec.{T, eqb, le→leb}
 use borrow.Author.Tests.{eq-eqb, ne-eqb}
-use Rattle.register.specs.Lists.{Each, none, also}
+use Rattle.theory.specs.Lists.{Each, none, also}
 use Rattle.register.specs.Steps.{read, step}
-use Rattle.register.proofs.Tests.{passed, true-passes, all-pass}
+use Rattle.theory.proofs.Tests.{passed, true-passes, all-pass}
 use Rattle.runfile.specs.RunFile.{file-tests, is-run-file, Written, Asked, nothing, values-for, move, asked}
 use Rattle.runfile.specs.Conditions.{FileFacts, Malformed, another-kind, length-of-step, length-of-read}
 use Rattle.runfile.proofs.Files.{file-facts}

@@ -6,9 +6,9 @@ use Prim.Native.Nat.{ℕ, _+_, _*_, _≤_}
 use native.Mathlib.Omega.{arith}
 use lib.Dec.{T, eqb, leb, leb→le, eqb→eq}
 use lib.ListN.{length, getD}
-use Rattle.register.specs.Area.{all}
-use Rattle.register.specs.Lists.{Each, none, also}
-use Rattle.register.proofs.Tests.{true-passes, each-passes}
+use Rattle.theory.specs.Lists.{all}
+use Rattle.theory.specs.Lists.{Each, none, also}
+use Rattle.theory.proofs.Tests.{true-passes, each-passes}
 use Rattle.runfile.specs.RunFile.{readers, capacity, starting-length, moves, moves-at, values, values-at}
 use Rattle.runfile.specs.RunFile.{header-bytes, file-tests, is-run-file, Written, written}
 use Rattle.runfile.specs.Conditions.{FileFacts}

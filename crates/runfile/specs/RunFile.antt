@@ -4,8 +4,8 @@ use mathlib.Core.List.{List, [], _∷_}
 use Prim.Native.Nat.{ℕ, _+_, _*_}
 use lib.Dec.{eqb, leb}
 use lib.ListN.{length, getD}
-use Rattle.register.specs.Place.{Record}
-use Rattle.register.specs.Area.{all}
+use Rattle.theory.specs.Place.{Record}
+use Rattle.theory.specs.Lists.{all}
 use Rattle.register.specs.Steps.{Move, read, step}
 use Rattle.runfile.specs.Bytes.{number-at, words-at}
 

@@ -5,7 +5,7 @@ ghost use mathlib.Core.List.{List};
 ghost use mathlib.Core.Path.{_≡_};
 ghost use Prim.Native.Nat.{ℕ};
 ghost use lib.ListN.{length as List·length};
-ghost use Rattle.register.specs.Area.{all};
+ghost use Rattle.theory.specs.Lists.{all};
 ghost use Rattle.runfile.specs.RunFile.{is-run-file};
 ghost use Rattle.runfile.specs.Code.{header-of, size-tests, part-tests};
 

@@ -9,16 +9,18 @@ use native.Mathlib.Omega.{arith}
 use lib.Dec.{eqb, lit<}
 use lib.ListN.{length}
 use borrow.Author.Tests.{ne-eqb}
-use Rattle.register.specs.Place.{Memory, apply}
+use Rattle.theory.specs.Place.{Memory, apply}
 use Rattle.register.specs.Area.{readers, memory, phase, pos, len, read-record}
 use Rattle.register.specs.Steps.{Move, copies}
 use Rattle.register.specs.Calls.{answered}
 use Rattle.register.specs.Calls.{after}
-use Rattle.atomic.specs.History.{Accepted, none, then, Got}
-use Rattle.atomic.specs.History.{Event, event, events}
-use Rattle.register.proofs.Tests.{eqb-same}
-use Rattle.register.proofs.Places.{row-length}
-use Rattle.atomic.proofs.Sums.{sum, sum-same, sum-one}
+use Rattle.atomic.specs.Seen.{Accepted, none, then}
+use Rattle.theory.specs.History.{Got}
+use Rattle.theory.specs.History.{Event}
+use Rattle.atomic.specs.Seen.{event, events}
+use Rattle.theory.proofs.Tests.{eqb-same}
+use Rattle.theory.proofs.Places.{row-length}
+use Rattle.theory.proofs.Sums.{sum, sum-same, sum-one}
 use Rattle.atomic.proofs.Moves.{Does, desk-record}
 use Rattle.atomic.proofs.Moves as moves
 use Rattle.atomic.proofs.Called.{Opened, opened, does, after-head, after-memory}

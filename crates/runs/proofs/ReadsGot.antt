@@ -14,17 +14,20 @@ use native.Mathlib.Decide.{ℕ-discrete}
 use lib.Dec.{eqb, leb, ltb, lit<}
 use lib.ListN.{length}
 use borrow.Author.Tests.{eq-eqb, ne-eqb}
-use Rattle.register.specs.Place.{Record}
+use Rattle.theory.specs.Place.{Record}
 use Rattle.register.specs.Area.{readers as area-readers, capacity as area-capacity, is-area, undamaged, memory}
 use Rattle.register.specs.Area.{phase, writer-phase, writes-ended, most-writes}
 use Rattle.register.specs.Steps.{Move, read, write, step, refuse, accept, Plan, sets-phase, begins-write, mover, plan}
 use Rattle.register.specs.Calls.{Answer, refused, carried-out, answered}
 use Rattle.register.specs.Calls.{after}
-use Rattle.atomic.specs.History.{Accepted, none, then, Got, got, Deed, read-began, write-began, went-on}
-use Rattle.atomic.specs.History.{looked}
-use Rattle.atomic.specs.History.{published, read-ended, write-ended, Event, event, events, Read, History, noted}
-use Rattle.atomic.specs.History.{all-noted, writer-deed}
-use Rattle.register.proofs.Tests.{if-true}
+use Rattle.atomic.specs.Seen.{Accepted, none, then, got}
+use Rattle.theory.specs.History.{Got, Deed, read-began, write-began, went-on}
+use Rattle.theory.specs.History.{looked}
+use Rattle.theory.specs.History.{published, read-ended, write-ended, Event, Read, History, noted}
+use Rattle.atomic.specs.Seen.{event, events}
+use Rattle.theory.specs.History.{all-noted}
+use Rattle.atomic.specs.Seen.{writer-deed}
+use Rattle.theory.proofs.Tests.{if-true}
 use Rattle.atomic.proofs.Intact.{keeps}
 use Rattle.runfile.specs.Bytes.{words-at}
 use Rattle.runfile.specs.RunFile.{readers, values, values-at, Written, Asked, nothing, values-for, move, asked}

@@ -15,18 +15,19 @@ use native.Mathlib.Omega.{arith}
 use lib.Dec.{eqb, leb}
 use lib.ListN.{length}
 use borrow.Author.Tests.{eq-eqb, ne-eqb}
-use Rattle.register.specs.Table.{total}
+use Rattle.theory.specs.Table.{total}
 use Rattle.register.specs.Area.{form1}
 use Rattle.register.specs.Area.{readers as area-readers, memory, phase}
 use Rattle.register.specs.Steps.{Move, write}
 use Rattle.register.specs.Calls.{Answer, refused, fresh, made, answered}
 use Rattle.register.specs.Calls.{after}
-use Rattle.atomic.specs.History.{Accepted, none, then, events, nothing-yet}
-use Rattle.register.proofs.Tests.{if-true}
+use Rattle.atomic.specs.Seen.{Accepted, none, then, events}
+use Rattle.theory.specs.History.{nothing-yet}
+use Rattle.theory.proofs.Tests.{if-true}
 use Rattle.atomic.proofs.Intact.{keeps}
 use Rattle.atomic.proofs.Making.{fresh-length, fresh-readers, at-desk}
 use Rattle.atomic.proofs.Made.{fresh-memory}
-use Rattle.atomic.proofs.Sums.{sum, sum-same, sum-zero}
+use Rattle.theory.proofs.Sums.{sum, sum-same, sum-zero}
 use Rattle.runfile.specs.Bytes.{words-at}
 use Rattle.runfile.specs.RunFile.{readers, capacity, moves, values, values-at, starting-record, is-run-file}
 use Rattle.runfile.specs.RunFile.{written, Asked, nothing, values-for, move, asked}

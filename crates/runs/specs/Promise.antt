@@ -8,7 +8,8 @@ use lib.Dec.{eqb, ltb}
 use lib.ListN.{length}
 use Rattle.register.specs.Steps.{Move}
 use Rattle.register.specs.Calls.{Answer, answered}
-use Rattle.atomic.specs.History.{Got, got}
+use Rattle.theory.specs.History.{Got}
+use Rattle.atomic.specs.Seen.{got}
 use Rattle.atomic.specs.Demands.{Run, beginning, now, told}
 use Rattle.runfile.specs.RunFile.{readers, capacity, moves, starting-record, is-run-file, written}
 use Rattle.playing.specs.Play.{State, played, next, first-state, run-answers, run-state, run-tally}

@@ -6,9 +6,10 @@ use mathlib.Core.List.{List}
 use Prim.Native.Nat.{ℕ, _≤_, _<_}
 use lib.Dec.{eqb}
 use lib.ListN.{length, getD}
-use Rattle.register.specs.Table.{total}
+use Rattle.theory.specs.Table.{total}
 use Rattle.register.specs.Area.{form1, known-form, in-range, readers, capacity, is-area}
-use Rattle.register.specs.Area.{all, memory-tests, undamaged}
+use Rattle.theory.specs.Lists.{all}
+use Rattle.register.specs.Area.{memory-tests, undamaged}
 use Rattle.register.proofs.Facts.{area-facts}
 use Rattle.area.specs.declared.Layout.{Layout}
 use Rattle.area.specs.Words.{layout-of, Sized, memory-of}

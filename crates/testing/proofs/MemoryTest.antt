@@ -4,8 +4,9 @@ use mathlib.Core.Bool.{Bool, true, false, _&&_, _||_, not, and-true}
 use mathlib.Core.Path.{_≡_, sym}
 use Prim.Native.Nat.{ℕ, _+_}
 use lib.Dec.{eqb, leb, ltb}
-use Rattle.register.specs.Place.{Memory}
-use Rattle.register.specs.Area.{all, every, memory-tests, current, word-sound, slot-sound, desk-sound, writer-sound}
+use Rattle.theory.specs.Place.{Memory}
+use Rattle.theory.specs.Lists.{all, every}
+use Rattle.register.specs.Area.{memory-tests, current, word-sound, slot-sound, desk-sound, writer-sound}
 use Rattle.register.specs.Area.{r-start, r-end, size, phase, last, pos, len, finished, most-writes}
 use Rattle.register.specs.Area.{writer-phase, last-slot, in-hand, writer-pos, writer-len, old-word, writes-ended}
 use Rattle.area.proofs.Joined.{three, six, nine}

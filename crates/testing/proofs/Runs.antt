@@ -4,7 +4,7 @@ use mathlib.Core.Path.{_≡_, ap, sym, _∙_}
 use Prim.Native.Nat.{ℕ, suc, _+_, _-_, _≤_, _<_}
 use native.Mathlib.Numerals.{add-one}
 use native.Mathlib.Omega.{arith}
-use Rattle.register.specs.Area.{every}
+use Rattle.theory.specs.Lists.{every}
 
 module _ (test : ℕ → Bool) (k : ℕ) where
   -- what is left at the start is the whole

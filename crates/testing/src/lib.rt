@@ -5,7 +5,8 @@ use area::header;
 ghost use mathlib.Core.Path.{_≡_};
 ghost use Prim.Native.Nat.{_≤_};
 ghost use lib.ListN.{length};
-ghost use Rattle.register.specs.Area.{all, is-area};
+ghost use Rattle.theory.specs.Lists.{all};
+ghost use Rattle.register.specs.Area.{is-area};
 ghost use Rattle.testing.specs.Test.{fit-tests, test-number};
 
 mod sound;

@@ -3,7 +3,8 @@ use area::Layout;
 use area::fields;
 ghost use mathlib.Core.Path.{_≡_};
 ghost use Prim.Native.Nat.{_+_, _≤_, _<_};
-ghost use Rattle.register.specs.Area.{all, every, memory-tests};
+ghost use Rattle.theory.specs.Lists.{all, every};
+ghost use Rattle.register.specs.Area.{memory-tests};
 ghost use Rattle.register.specs.Area.{word-sound, slot-sound, desk-sound, writer-sound};
 ghost use Rattle.area.specs.Words.{Sized, memory-of};
 

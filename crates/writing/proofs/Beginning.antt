@@ -7,7 +7,7 @@ use Prim.Native.Nat.{ℕ, _≤_, _<_}
 use borrow.Author.Tests.{le-leb, lt-leb}
 use lib.ListN.{length}
 use borrow.Author.Tests.{eq-eqb, ne-eqb, lt-ltb, le-ltb}
-use Rattle.register.specs.Place.{Record, _≔_, copied}
+use Rattle.theory.specs.Place.{Record, _≔_, copied}
 use Rattle.register.specs.Area.{form1, most-writes, writer-phase, in-hand, writer-pos, writer-len, writes-ended}
 use Rattle.register.specs.Area.{write-record}
 use Rattle.register.specs.Steps.{begins-write, write-begins}

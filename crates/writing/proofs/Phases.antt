@@ -7,7 +7,7 @@ use mathlib.Core.Bool.{true, false}
 use mathlib.Core.List.{List, [], _∷_}
 use Prim.Native.Nat.{ℕ, _≤_}
 use native.Mathlib.Omega.{arith}
-use Rattle.register.specs.Place.{Memory}
+use Rattle.theory.specs.Place.{Memory}
 use Rattle.register.specs.Area.{writer-phase}
 use Rattle.register.specs.Steps.{Plan, refuse, accept, at-phase, looks, writer-step}
 use Rattle.register.specs.Steps.{fills, sizes, clears-start, clears-end, publishes, freezes}

@@ -6,7 +6,7 @@ use area::stores;
 ghost use mathlib.Core.Path.{_≡_};
 ghost use Prim.Native.Nat.{_≤_};
 ghost use lib.ListN.{length};
-ghost use Rattle.register.specs.Place.{copied};
+ghost use Rattle.theory.specs.Place.{copied};
 ghost use Rattle.register.specs.Area.{write-record};
 ghost use Rattle.register.specs.Steps.{sets-out, write-begins, writer-step};
 ghost use Rattle.area.specs.Words.{Sized, memory-of, words-after};

@@ -3,7 +3,7 @@ use borrow.Author.Needs.{needs}
 use Prim.Native.Nat.{_≤_}
 use native.Mathlib.Nat.{one-mul}
 use native.Mathlib.Omega.{arith}
-use Rattle.register.specs.Table.{total}
+use Rattle.theory.specs.Table.{total}
 use Rattle.register.specs.Area.{form1}
 use Rattle.area.proofs.Sizes.{total-small}
 use Rattle.area.proofs.Layout.new.Statement.{statement}

@@ -5,7 +5,8 @@ use mathlib.Core.Bool.{Bool}
 use mathlib.Core.Path.{_≡_, sym, _∙_}
 use mathlib.Core.List.{List}
 use Prim.Native.Nat.{ℕ, _+_, _-_}
-use Rattle.register.specs.Area.{every, slot-sound}
+use Rattle.theory.specs.Lists.{every}
+use Rattle.register.specs.Area.{slot-sound}
 use Rattle.area.specs.declared.Layout.{Layout}
 use Rattle.area.specs.Words.{memory-of}
 use Rattle.area.proofs.Asked.{was-no, was-yes}

@@ -2,7 +2,7 @@
 use borrow.Author.Needs.{needs}
 use mathlib.Core.Bool.{true}
 use mathlib.Core.Path.{_≡_, _∙_}
-use Rattle.register.specs.Place.{Memory}
+use Rattle.theory.specs.Place.{Memory}
 use Rattle.register.specs.Area.{current, word-sound}
 use Rattle.area.specs.Words.{memory-of}
 use Rattle.area.proofs.Asked.{was-no, was-yes}

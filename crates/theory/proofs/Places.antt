@@ -9,8 +9,8 @@ use native.Mathlib.Omega.{arith}
 use lib.Dec.{eqb, ltb, ltb→lt, nltb→le}
 use lib.ListN.{length, getD}
 use borrow.Author.Tests.{ne-eqb}
-use Rattle.register.specs.Place.{Record, Place, Memory, changed, Store, apply, copied}
-use Rattle.register.proofs.Tests.{eqb-same, same-either, true-passes}
+use Rattle.theory.specs.Place.{Record, Place, Memory, changed, Store, apply, copied}
+use Rattle.theory.proofs.Tests.{eqb-same, same-either, true-passes}
 
 -- ---- one place changed
 

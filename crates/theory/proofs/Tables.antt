@@ -21,13 +21,13 @@ use lib.Dec.{T, eqb, ltb, ltb→lt, eqb→eq}
 use lib.ListN.{length, getD, set, length-set, take}
 use lib.Seq.{getD-set-same, getD-set-other, drop-cons}
 use borrow.Author.Tests.{eq-eqb, ne-eqb, lt-ltb}
-use Rattle.register.specs.Place.{Place, changed, Store, apply}
-use Rattle.register.specs.Table.{Table, width, base, total, address, has, view, store}
-use Rattle.register.specs.Calls.{words-from}
-use Rattle.register.specs.Lists.{Each, also}
-use Rattle.register.specs.Table.{Untouched}
-use Rattle.register.proofs.Tests.{both, true-passes}
-use Rattle.register.proofs.Places.{place-equal, place-discrete, changed-here, changed-elsewhere, row, row-same}
+use Rattle.theory.specs.Place.{Place, changed, Store, apply}
+use Rattle.theory.specs.Table.{Table, width, base, total, address, has, view, store}
+use Rattle.theory.specs.Lists.{words-from}
+use Rattle.theory.specs.Lists.{Each, also}
+use Rattle.theory.specs.Table.{Untouched}
+use Rattle.theory.proofs.Tests.{both, true-passes}
+use Rattle.theory.proofs.Places.{place-equal, place-discrete, changed-here, changed-elsewhere, row, row-same}
 
 -- ---- rows of one width
 

@@ -6,8 +6,8 @@ use mathlib.Core.Logic.{_≢_}
 use Prim.Native.Nat.{ℕ, zero, suc, _+_, _*_}
 use lib.Dec.{eqb, ltb}
 use lib.ListN.{getD, set}
-use Rattle.register.specs.Lists.{Each}
-use Rattle.register.specs.Place.{Place, Memory, Store}
+use Rattle.theory.specs.Lists.{Each}
+use Rattle.theory.specs.Place.{Place, Memory, Store}
 
 -- An area is made of parts, one behind another; a part of rows; a row of fields. Each field of a row is one word, but
 -- the last, which has as many as the table says. Of each part: its rows, the single words of a row before the last

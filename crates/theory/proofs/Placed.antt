@@ -6,7 +6,6 @@
 --     later, where-later                  a read that ends later is placed where it was
 --     where-published, where-closed       a publication puts it one further back, the end of a write does not
 --     newest-where                        a read of the newest record is placed no write back
---     where-numbered                      a placed read shows the record of the write that has its number
 --     length-closed, newest-closed, apart-later   writes that end, and time that goes on
 --     sound-at-first, Needs, sound-noted  a history is sound at first, and after one more move that has what it needs
 --     began-noted                         no operation began later than now
@@ -19,14 +18,12 @@ use native.Mathlib.Nat.{le-refl, le-suc, le-trans}
 use native.Mathlib.Omega.{arith}
 use lib.Dec.{eqb}
 use lib.ListN.{length}
-use borrow.Author.Tests.{eq-eqb, ne-eqb}
-use Rattle.register.specs.Lists.{Each, none, also}
-use Rattle.register.specs.Place.{Record}
-use Rattle.atomic.specs.History.{Deed, read-began, write-began, went-on, looked, published}
-use Rattle.atomic.specs.History.{read-ended, write-ended, Read, Write, History}
-use Rattle.atomic.specs.History.{closed, the-write, noted, nothing-yet}
-use Rattle.atomic.specs.Demands.{record-of}
-use Rattle.register.proofs.Tests.{if-true}
+use Rattle.theory.specs.Lists.{Each, none, also}
+use Rattle.theory.specs.Place.{Record}
+use Rattle.theory.specs.History.{Deed, read-began, write-began, went-on, looked, published}
+use Rattle.theory.specs.History.{read-ended, write-ended, Read, Write, History}
+use Rattle.theory.specs.History.{closed, the-write, noted, nothing-yet}
+use Rattle.theory.proofs.Tests.{if-true}
 
 -- ---- placed, apart and sound; lists of reads and of writes are newest first
 
@@ -126,18 +123,6 @@ newest-where first begin end v n writes no-writes e q =
     record { back = 0; placed = at-start e; number = omega arith }
 newest-where first begin end v n writes (one-write a b c rest) e q =
     record { back = 0; placed = at-newest c e; number = omega arith }
-
--- a read shows the record of the write that has its number
-placed-numbered : {first : Record} {begin end back : ℕ} {v : Record} {writes : List Write} (n : ℕ)
-    → Placed first begin end v back writes → back + n ≡ length writes → v ≡ record-of first writes n
-placed-numbered n (at-start e) q = e
-placed-numbered n (at-newest {writes = writes} p e) q = rw (eq-eqb n (suc (length writes)) (omega arith)) e
-placed-numbered n (further-back {writes = writes} p rest) q =
-    rw (ne-eqb n (suc (length writes)) (λ z. omega arith)) (placed-numbered n rest (omega arith))
-
-pub where-numbered : {first : Record} {begin end n : ℕ} {v : Record} {writes : List Write}
-    → Where first begin end v n writes → v ≡ record-of first writes n
-where-numbered {n = n} a = placed-numbered n (a .placed) (a .number)
 
 -- ---- all writes and all reads, while the run goes on
 

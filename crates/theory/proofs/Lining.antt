@@ -6,13 +6,13 @@ use Prim.Native.Nat.{ℕ, suc, _≤_, _<_, zero-le, suc-le-suc}
 use native.Mathlib.Nat.{le-refl, le-trans}
 use native.Mathlib.Omega.{arith}
 use lib.ListN.{length}
-use Rattle.register.specs.Place.{Record}
-use Rattle.atomic.specs.History.{Write, History}
-use Rattle.atomic.specs.Line.{Operation, start, reading, writing, began, ended}
-use Rattle.atomic.specs.Line.{Reordered, empty, keep, swap, twice, At, here, behind}
-use Rattle.atomic.specs.Line.{Gives, done, from-start, to-read, from-write, writes-of, Line}
-use Rattle.atomic.proofs.Placed.{newest, Sound}
-use Rattle.atomic.proofs.Inserting.{Lined, nothing, with-read, with-write, same, all-put-in}
+use Rattle.theory.specs.Place.{Record}
+use Rattle.theory.specs.History.{Write, History}
+use Rattle.theory.specs.Line.{Operation, start, reading, writing, began, ended}
+use Rattle.theory.specs.Line.{Reordered, empty, keep, swap, twice, At, here, behind}
+use Rattle.theory.specs.Line.{Gives, done, from-start, to-read, from-write, writes-of, Line}
+use Rattle.theory.proofs.Placed.{newest, Sound}
+use Rattle.theory.proofs.Inserting.{Lined, nothing, with-read, with-write, same, all-put-in}
 
 -- ---- a list turned round is the same list in another order
 

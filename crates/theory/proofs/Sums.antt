@@ -6,7 +6,7 @@ use Prim.Native.Nat.{ℕ, zero, suc, _+_, _≤_, _<_}
 use native.Mathlib.Decide.{ℕ-discrete}
 use native.Mathlib.Omega.{arith}
 use lib.Dec.{eqb}
-use Rattle.register.proofs.Tests.{hit, miss}
+use Rattle.theory.proofs.Tests.{hit, miss}
 
 unfoldable pub sum : ℕ → (ℕ → ℕ) → ℕ
 sum zero f = zero

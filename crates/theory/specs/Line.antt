@@ -3,8 +3,8 @@
 use mathlib.Core.Path.{_≡_}
 use mathlib.Core.List.{List, [], _∷_, _++_, map, reverse}
 use Prim.Native.Nat.{ℕ, zero, suc, _<_}
-use Rattle.register.specs.Place.{Record}
-use Rattle.atomic.specs.History.{Read, Write, History}
+use Rattle.theory.specs.Place.{Record}
+use Rattle.theory.specs.History.{Read, Write, History}
 
 -- the starting record, a finished read, a published write
 pub data Operation : Type 0 where

@@ -20,10 +20,10 @@ use Prim.Native.Nat.{ℕ, suc, _≤_, _<_}
 use native.Mathlib.Decide.{ℕ-discrete}
 use native.Mathlib.Omega.{arith}
 use lib.ListN.{length}
-use Rattle.register.specs.Place.{Record}
-use Rattle.atomic.specs.History.{Write, History}
-use Rattle.register.proofs.Places.{row, row-same}
-use Rattle.atomic.proofs.Placed.{Where, Sound, where-later, newest, newest-where, apart-later}
+use Rattle.theory.specs.Place.{Record}
+use Rattle.theory.specs.History.{Write, History}
+use Rattle.theory.proofs.Places.{row, row-same}
+use Rattle.theory.proofs.Placed.{Where, Sound, where-later, newest, newest-where, apart-later}
 
 -- ---- one word more
 
