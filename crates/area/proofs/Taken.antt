@@ -2,7 +2,7 @@
 use mathlib.Core.Bool.{Bool, true, false, _&&_, not}
 use mathlib.Core.Path.{_≡_, ap₂}
 use Prim.Native.Nat.{ℕ, _≤_}
-use Rattle.register.specs.Area.{known-form, in-range}
+use Rattle.register.specs.Shape.{known-form, in-range}
 use Rattle.theory.proofs.Tests.{both, true-passes}
 use Rattle.register.proofs.Facts.{range-facts}
 use Rattle.area.proofs.Asked.{was-no, was-yes}

@@ -12,7 +12,7 @@ use Rattle.theory.specs.Table.{Table, address, view, store}
 use Rattle.register.specs.Area.{form1, slot-field, contents, desk-field, read-record}
 use Rattle.register.specs.Area.{writer-field, write-record}
 use Rattle.theory.proofs.Tables.{Has, view-here}
-use Rattle.register.proofs.Form1.{body-slot, body-contents, body-desk, body-writer, body-write-record}
+use Rattle.register.proofs.Body.{body-slot, body-contents, body-desk, body-writer, body-write-record}
 use Rattle.area.specs.Words.{word-at, slot-word, desk-word, writer-word}
 
 -- ---- any place of any table

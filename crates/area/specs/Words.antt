@@ -5,7 +5,8 @@ use Prim.Native.Nat.{ℕ, _+_, _*_, _≤_}
 use lib.ListN.{length}
 use Rattle.theory.specs.Place.{Memory, Store}
 use Rattle.theory.specs.Table.{Table, base, width, total, view, store}
-use Rattle.register.specs.Area.{form1, slots-at, desks-at, writer-at}
+use Rattle.register.specs.Area.{form1}
+use Rattle.register.specs.Shape.{slots-at, desks-at, writer-at}
 use Rattle.area.specs.declared.Layout.{Layout}
 
 -- where word f of row r of part g stands: the address of field f, or of a column of the last field

@@ -2,7 +2,8 @@
 use crate::Layout;
 ghost use mathlib.Core.Bool.{true};
 ghost use mathlib.Core.Path.{_≡_};
-ghost use Rattle.register.specs.Area.{known-form, in-range, readers, capacity, is-area};
+ghost use Rattle.register.specs.Shape.{known-form, in-range};
+ghost use Rattle.register.specs.Area.{readers, capacity, is-area};
 ghost use Rattle.area.specs.Words.{layout-of};
 
 // Whether a form is known: 1 is.

@@ -20,14 +20,15 @@ use lib.ListN.{length, getD}
 use Rattle.register.proofs.Facts.{AreaFacts, area-facts, its-plan, whole-area, sound-area}
 use Rattle.theory.specs.Place.{Store, apply}
 use Rattle.theory.specs.Table.{total, view, store}
-use Rattle.register.specs.Area.{form1, readers, capacity, table, is-area}
+use Rattle.register.specs.Area.{form1, readers, capacity, is-area}
+use Rattle.register.specs.Shape.{table}
 use Rattle.register.specs.Area.{memory, undamaged}
 use Rattle.register.specs.Steps.{Plan, refuse, accept, Move, mover}
 use Rattle.register.specs.Calls.{Answer, refused, carried-out, answered}
 use Rattle.atomic.specs.Demands.{Refused}
 use Rattle.theory.proofs.Tests.{if-true}
 use Rattle.theory.proofs.Tables.{view-store, length-store, store-untouched}
-use Rattle.register.proofs.Form1.{AllInBody, all-has, head-untouched}
+use Rattle.register.proofs.Body.{AllInBody, all-has, head-untouched}
 use Rattle.atomic.proofs.Moves.{Does, by}
 use Rattle.register.specs.Conditions.{Whole}
 use Rattle.atomic.proofs.Stays.{stays-whole}

@@ -9,7 +9,8 @@ use lib.ListN.{length}
 use borrow.Author.Tests.{eq-eqb, ne-eqb, lt-ltb, le-ltb}
 use Rattle.register.proofs.Facts.{number-of}
 use Rattle.theory.specs.Place.{Record, Memory}
-use Rattle.register.specs.Area.{current, counter, r-start, r-end, size, limit, most-writes, phase, last, pos}
+use Rattle.register.specs.Area.{current, counter, r-start, r-end, size, most-writes, phase, last, pos}
+use Rattle.register.specs.Shape.{limit}
 use Rattle.register.specs.Area.{len}
 use Rattle.register.specs.Area.{writer-phase, in-hand, writes-ended}
 use Rattle.register.specs.Steps

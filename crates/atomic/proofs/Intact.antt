@@ -11,7 +11,8 @@ use lib.ListN.{length, getD}
 use Rattle.theory.specs.Place.{Record, Memory, Store, apply}
 use Rattle.theory.specs.Table.{address, has}
 use Rattle.register.specs.Area.{phase, len, finished, read-record, writer-phase, writes-ended, most-writes}
-use Rattle.register.specs.Area.{readers, capacity, table, memory}
+use Rattle.register.specs.Area.{readers, capacity, memory}
+use Rattle.register.specs.Shape.{table}
 use Rattle.theory.specs.Lists.{all}
 use Rattle.register.specs.Steps.{Plan, refuse, accept, sets-phase, begins-write, Move, read, write, step, mover}
 use Rattle.register.specs.Calls.{carried-out, answered, is-own, shown}

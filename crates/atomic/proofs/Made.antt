@@ -11,7 +11,8 @@ use lib.Dec.{eqb, leb, leb→le}
 use lib.ListN.{length}
 use Rattle.theory.specs.Place.{Record}
 use Rattle.theory.specs.Table.{total, view}
-use Rattle.register.specs.Area.{form1, in-range, known-form, memory, undamaged}
+use Rattle.register.specs.Area.{form1, memory, undamaged}
+use Rattle.register.specs.Shape.{in-range, known-form}
 use Rattle.register.specs.Calls.{Answer, refused, fresh, made}
 use Rattle.atomic.specs.Demands.{Refused, Makes}
 use Rattle.theory.proofs.Tests.{true-passes, both, if-true}

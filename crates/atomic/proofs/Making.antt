@@ -14,10 +14,12 @@ use lib.Dec.{eqb, ltb, leb, ltb→lt, le→leb, eqb-refl, lit<}
 use lib.ListN.{length, getD, replicate, length-replicate}
 use Rattle.theory.specs.Place.{Record, Place, Memory, _≔_, apply}
 use Rattle.theory.specs.Table.{total, address, has, view}
-use Rattle.register.specs.Area.{form1, slots-at, desks-at, writer-at, header, current, index, counter}
+use Rattle.register.specs.Area.{form1, header, current, index, counter}
+use Rattle.register.specs.Shape.{slots-at, desks-at, writer-at}
 use Rattle.register.specs.Area.{slot-field, size, contents, desk-field, writer-field, last, phase}
 use Rattle.theory.specs.Lists.{all}
-use Rattle.register.specs.Area.{range-tests, is-area}
+use Rattle.register.specs.Shape.{range-tests}
+use Rattle.register.specs.Area.{is-area}
 use Rattle.register.specs.Calls.{making, fresh}
 use Rattle.theory.specs.History.{nothing-yet}
 use Rattle.theory.specs.Lists.{none, also}
@@ -25,7 +27,7 @@ use Rattle.theory.proofs.Tests.{passed, all-pass, same-either}
 use Rattle.theory.proofs.Sums.{sum-same, sum-zero, sum-ones}
 use Rattle.theory.proofs.Places.{copied-elsewhere, row, row-copied}
 use Rattle.theory.proofs.Tables.{view-store, view-here, length-store, Has, AllHas}
-use Rattle.register.proofs.Form1.{all-has, has-header, body-slot, body-contents, body-copied}
+use Rattle.register.proofs.Body.{all-has, has-header, body-slot, body-contents, body-copied}
 use Rattle.atomic.proofs.Balance.{idle}
 use Rattle.atomic.proofs.Counting.{is-bound, bound, bound-away, Counted}
 use Rattle.register.specs.Conditions.{Whole}

@@ -8,7 +8,8 @@ use lib.Dec.{eqb, ltb}
 use lib.ListN.{length, getD}
 use Rattle.theory.specs.Place.{Record, Memory, Store, _≔_, apply}
 use Rattle.register.specs.Area.{current, index, counter, r-start, r-end, size, slot-write-number, contents}
-use Rattle.register.specs.Area.{limit, most-writes}
+use Rattle.register.specs.Shape.{limit}
+use Rattle.register.specs.Area.{most-writes}
 use Rattle.register.specs.Area.{phase, last, pos, len, desk-write-number, read-record}
 use Rattle.register.specs.Area.{writer-phase, last-slot, in-hand, writer-pos, writer-len, writes-ended}
 use Rattle.register.specs.Area.{write-record}

@@ -17,7 +17,8 @@ use borrow.Author.Tests.{eq-eqb, lt-ltb}
 use Rattle.theory.specs.Place.{Memory, apply}
 use Rattle.theory.specs.Table.{total, address}
 use Rattle.register.specs.Area.{phase, len, finished, desk-write-number, read-record, writer-phase}
-use Rattle.register.specs.Area.{readers, capacity, table, memory}
+use Rattle.register.specs.Area.{readers, capacity, memory}
+use Rattle.register.specs.Shape.{table}
 use Rattle.register.specs.Calls.{published-writes, age-of, carried-out, stepped, own-tests, is-own, shown}
 use Rattle.theory.specs.Lists.{words-from}
 use Rattle.atomic.specs.Seen.{got}
@@ -30,7 +31,7 @@ use Rattle.theory.proofs.Tests.{passed, true-passes, all-pass, eqb-same}
 use Rattle.theory.specs.Lists.{none, also}
 use Rattle.theory.proofs.Places.{row-same}
 use Rattle.theory.proofs.Tables.{view-here, words-row}
-use Rattle.register.proofs.Form1.{body-read-record}
+use Rattle.register.proofs.Body.{body-read-record}
 use Rattle.atomic.proofs.Moves
 use Rattle.atomic.proofs.Moves.{Does, by, desk-record}
 use Rattle.atomic.proofs.Planned.{seen, seen-got, seen-reader, seen-writer}

@@ -14,7 +14,8 @@ use lib.Dec.{T, eqb, ltb, ltb→lt}
 use lib.ListN.{length}
 use borrow.Author.Tests.{ne-eqb, lt-ltb, le-ltb}
 use Rattle.theory.specs.Place.{Record, Place, Memory, apply, copied}
-use Rattle.register.specs.Area.{current, index, counter, r-end, size, limit, most-writes}
+use Rattle.register.specs.Area.{current, index, counter, r-end, size, most-writes}
+use Rattle.register.specs.Shape.{limit}
 use Rattle.register.specs.Area.{phase, last, pos, len, desk-write-number}
 use Rattle.register.specs.Area.{writer-phase, in-hand, writer-pos, writer-len, old-word}
 use Rattle.register.specs.Area.{writes-ended, write-record}
@@ -30,8 +31,8 @@ use Rattle.theory.proofs.Tests.{if-true, if-equal, if-less, if-at-most, end, ne
 use Rattle.theory.proofs.Tests.{eqb-same, same-either, differ-and-same}
 use Rattle.theory.proofs.Tests.{not-differ-and-same}
 use Rattle.theory.proofs.Places.{place-equal, apply-append, copied-elsewhere, copied-column}
-use Rattle.register.proofs.Form1.{InBody, AllInBody, body-append, body-current, body-slot, body-contents}
-use Rattle.register.proofs.Form1.{body-desk, body-read-record, body-writer, body-write-record, body-copied}
+use Rattle.register.proofs.Body.{InBody, AllInBody, body-append, body-current, body-slot, body-contents}
+use Rattle.register.proofs.Body.{body-desk, body-read-record, body-writer, body-write-record, body-copied}
 use Rattle.atomic.proofs.Moves
 use Rattle.atomic.proofs.Moves.{Does, by, desk-with, to-phase, fills-to, got-now, desk-record}
 use Rattle.register.specs.Conditions.{Whole}

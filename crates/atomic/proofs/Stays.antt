@@ -7,7 +7,8 @@ use Prim.Native.Nat.{ℕ, suc, _*_, _≤_, _<_}
 use native.Mathlib.Omega.{arith}
 use borrow.Author.Tests.{ne-eqb}
 use Rattle.theory.specs.Place.{Memory, apply}
-use Rattle.register.specs.Area.{current, index, counter, r-start, r-end, size, limit}
+use Rattle.register.specs.Area.{current, index, counter, r-start, r-end, size}
+use Rattle.register.specs.Shape.{limit}
 use Rattle.register.specs.Area.{phase, last, pos, len, finished, in-hand, writer-pos}
 use Rattle.register.specs.Area.{old-word}
 use Rattle.register.specs.Steps.{sets-phase, unbinds, binds, takes, copies, finishes, sizes, clears-start}

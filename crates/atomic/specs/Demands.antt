@@ -13,7 +13,8 @@ use Rattle.theory.specs.Place.{Record, Store}
 use Rattle.theory.specs.Table.{has}
 use Rattle.register.specs.Area.{phase, len, desk-write-number, writer-phase, writer-len, writes-ended}
 use Rattle.register.specs.Area.{most-writes}
-use Rattle.register.specs.Area.{readers, capacity, table, is-area, memory, undamaged}
+use Rattle.register.specs.Area.{readers, capacity, is-area, memory, undamaged}
+use Rattle.register.specs.Shape.{table}
 use Rattle.register.specs.Steps.{accept, Move, mover, plan}
 use Rattle.register.specs.Calls.{Answer, made, answered, read-begun, write-begun, stepped, shown}
 use Rattle.register.specs.Calls.{after}

@@ -9,7 +9,8 @@ use lib.Dec.{eqb, leb}
 use lib.ListN.{length}
 use Rattle.theory.specs.Place.{Record}
 use Rattle.theory.specs.Table.{total}
-use Rattle.register.specs.Area.{form1, known-form, in-range}
+use Rattle.register.specs.Area.{form1}
+use Rattle.register.specs.Shape.{known-form, in-range}
 use Rattle.register.specs.Steps.{_else_, unless}
 use Rattle.register.specs.Calls.{Answer, refused, fresh, made}
 use Rattle.area.specs.Words.{layout-of, Sized}

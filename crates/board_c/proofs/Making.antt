@@ -10,7 +10,8 @@ use lib.Dec.{eqb, leb}
 use lib.ListN.{length}
 use Rattle.theory.specs.Place.{Record}
 use Rattle.theory.specs.Table.{total}
-use Rattle.register.specs.Area.{form1, known-form, in-range}
+use Rattle.register.specs.Area.{form1}
+use Rattle.register.specs.Shape.{known-form, in-range}
 use Rattle.register.specs.Calls.{Answer, made}
 use Rattle.area.specs.declared.Layout.{Layout}
 use Rattle.area.specs.Words.{layout-of}

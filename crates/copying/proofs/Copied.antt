@@ -22,7 +22,7 @@ use Rattle.register.specs.Area.{writer-phase, writes-ended, most-writes}
 use Rattle.register.specs.Calls.{age-of}
 use Rattle.theory.specs.Lists.{none, also}
 use Rattle.theory.proofs.Tables.{AllHas, view-store}
-use Rattle.register.proofs.Form1.{body-desk, body-read-record}
+use Rattle.register.proofs.Body.{body-desk, body-read-record}
 use Rattle.area.specs.Words.{Sized, memory-of, words-after}
 use Rattle.area.specs.declared.Layout.{Layout}
 use Rattle.answer.specs.declared.Answer.{Answer as Returned}

@@ -7,7 +7,8 @@ use native.Mathlib.Omega.{arith}
 use borrow.Author.Tests.{eq-eqb, ne-eqb, le-leb, lt-leb}
 use lib.Dec.{eqb, leb, eqb→eq, leb→le}
 use Rattle.theory.specs.Table.{total}
-use Rattle.register.specs.Area.{form1, known-form, in-range}
+use Rattle.register.specs.Area.{form1}
+use Rattle.register.specs.Shape.{known-form, in-range}
 use Rattle.theory.proofs.Tests.{true-passes}
 use Rattle.area.specs.declared.Layout.{Layout}
 use Rattle.area.specs.Words.{layout-of}

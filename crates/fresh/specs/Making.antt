@@ -6,8 +6,9 @@ use lib.Dec.{eqb, leb}
 use lib.ListN.{length}
 use Rattle.theory.specs.Place.{Record, Store, _≔_, copied}
 use Rattle.theory.specs.Table.{total}
-use Rattle.register.specs.Area.{form1, slots-at, desks-at, writer-at, header, current, size, contents}
-use Rattle.register.specs.Area.{known-form, in-range}
+use Rattle.register.specs.Area.{form1, header, current, size, contents}
+use Rattle.register.specs.Shape.{slots-at, desks-at, writer-at}
+use Rattle.register.specs.Shape.{known-form, in-range}
 use Rattle.register.specs.Steps.{_else_, unless}
 
 -- for as many words lent and a record of a length: the first test that fails gives its number, and 0 says that all

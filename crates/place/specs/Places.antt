@@ -5,7 +5,8 @@ use Prim.Native.Nat.{ℕ}
 use lib.Dec.{eqb, ltb}
 use Rattle.theory.specs.Place.{Memory}
 use Rattle.theory.specs.Table.{address}
-use Rattle.register.specs.Area.{table, memory, phase, len, finished, read-record}
+use Rattle.register.specs.Shape.{table}
+use Rattle.register.specs.Area.{memory, phase, len, finished, read-record}
 use Rattle.register.specs.Calls.{is-own}
 use Rattle.place.specs.declared.RecordPlace.{RecordPlace}
 

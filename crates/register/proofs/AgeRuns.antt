@@ -4,8 +4,8 @@ use mathlib.Core.Path.{_≡_, refl}
 use mathlib.Core.List.{List, [], _∷_, _++_, map}
 use Prim.Native.Nat.{ℕ}
 use lib.ListN.{replicate}
-use Rattle.register.specs.Area.{writes-ended, most-writes, memory}
-use Rattle.register.specs.Area.{is-area, slot-sound, desk-sound, writer-sound, undamaged}
+use Rattle.register.specs.Area.{writes-ended, most-writes, memory, is-area, slot-sound, desk-sound}
+use Rattle.register.specs.Area.{writer-sound, undamaged}
 use Rattle.register.specs.Steps.{reader-step, writer-step, Move, read, step}
 use Rattle.register.specs.Calls.{carried-out, answered, after, is-own, shown}
 use Rattle.theory.specs.Lists.{Each, none, also}

@@ -1,9 +1,9 @@
 -- The tests of document 01 as facts, both ways: what passes is what `Conditions` says.
 --     range-is, area-is, undamaged-is, own-is    a test passes exactly if its facts hold
 --     area-facts, whole-area, sound-area         the same one way, as it is mostly used
---     its-plan, number-of                        the plan of a call, and the number that a plan gives
+--     its-plan, every-call, number-of            the plan of a call, which every form has, and the number that it gives
 -- Assumes nothing.
-use mathlib.Core.Path.{_≡_, refl, sym, subst₂}
+use mathlib.Core.Path.{_≡_, refl, sym, subst}
 use mathlib.Core.Logic.{_↔_}
 use mathlib.Core.Bool.{true}
 use mathlib.Core.List.{List}
@@ -13,23 +13,22 @@ use lib.Dec.{T, eqb, eqb→eq, leb→le, le→leb, ltb→lt, lt→ltb}
 use lib.ListN.{length}
 use borrow.Author.Tests.{eq-eqb}
 use Rattle.theory.specs.Table.{total}
-use Rattle.register.specs.Area.{slots-at, desks-at, writer-at, range-tests, in-range, readers, capacity}
-use Rattle.register.specs.Area.{table, area-tests, is-area, undamaged, memory, memory-tests}
-use Rattle.theory.specs.Lists.{all}
+use Rattle.register.specs.Shape.{Shape, slots-at, desks-at, writer-at, range-tests, in-range, table}
+use Rattle.register.specs.Area.{shape-of, area-tests, is-area, undamaged, memory, memory-tests}
+use Rattle.theory.specs.Lists.{all, Each, none, also}
 use Rattle.register.specs.Conditions.{InRange, word, AnArea, Undamaged, Whole}
 use Rattle.register.specs.Calls.{own-tests, is-own}
 use Rattle.register.specs.Numbers.{writer, OwnToShow}
-use Rattle.theory.specs.Lists.{Each, none, also}
 use Rattle.theory.proofs.Tests.{passed, true-passes, each-passes, all-pass}
-use Rattle.register.specs.Steps.{Plan, refuse, accept, Move, plan}
+use Rattle.register.specs.Steps.{Plan, refuse, accept, Move, read, write, step, plan, has-call}
 use Rattle.register.proofs.Whole.{whole-of, of-whole}
 
 -- ---- test 1 as facts
 
-pub range-facts : (n c : ℕ) → T (in-range n c) → InRange n c
-range-facts n c t = go (each-passes (range-tests n c) t)
+pub range-facts : (k : Shape) → T (in-range k) → InRange k
+range-facts k t = go (each-passes (range-tests k) t)
   where
-    go : Each T (range-tests n c) → InRange n c
+    go : Each T (range-tests k) → InRange k
     go (also a (also b (also d (also e none)))) =
         record {
           some-readers = leb→le _ _ a;
@@ -38,21 +37,25 @@ range-facts n c t = go (each-passes (range-tests n c) t)
           few-words = leb→le _ _ e;
         }
 
-pub whole-area : (a : List ℕ) → undamaged a ≡ true → Whole (readers a) (capacity a) (memory a)
+pub whole-area : (a : List ℕ) → undamaged a ≡ true → Whole (shape-of a) (memory a)
 unfolding undamaged
-whole-area a e = whole-of (readers a) (capacity a) (memory a) (true-passes _ e)
+whole-area a e = whole-of (shape-of a) (memory a) (true-passes _ e)
 
-pub sound-area : (a : List ℕ) (n c : ℕ) → readers a ≡ n → capacity a ≡ c → Whole n c (memory a)
-    → undamaged a ≡ true
+pub sound-area : (a : List ℕ) (k : Shape) → shape-of a ≡ k → Whole k (memory a) → undamaged a ≡ true
 unfolding undamaged
-sound-area a n c en ec w =
-    passed _ (subst₂ (λ j k. T (all (memory-tests j k (memory a)))) (sym en) (sym ec) (of-whole n c (memory a) w))
+sound-area a k e w = passed _ (subst (λ j. T (all (memory-tests j (memory a)))) (sym e) (of-whole k (memory a) w))
 
 -- ---- a plan
 
 -- the plan of a call
 abbrev pub its-plan : List ℕ → Move → Plan
-its-plan a x = plan (readers a) (capacity a) (memory a) x
+its-plan a x = plan (shape-of a) (memory a) x
+
+-- every known form has every call
+pub every-call : (k : Shape) (x : Move) → has-call k x ≡ true
+every-call k (read r) = refl
+every-call k (write v) = refl
+every-call k (step p) = refl
 
 -- the number that a plan gives
 abbrev pub number-of : Plan → ℕ
@@ -61,13 +64,13 @@ number-of (accept stores ends) = 0
 
 -- ---- both ways
 
-pub range-is : (n c : ℕ) → (in-range n c ≡ true) ↔ InRange n c
-range-is n c = (λ e. range-facts n c (true-passes _ e), back)
+pub range-is : (k : Shape) → (in-range k ≡ true) ↔ InRange k
+range-is k = (λ e. range-facts k (true-passes _ e), back)
   where
-    back : InRange n c → in-range n c ≡ true
+    back : InRange k → in-range k ≡ true
     back r =
         passed _
-        (all-pass (range-tests n c)
+        (all-pass (range-tests k)
         (also (le→leb _ _ (r .some-readers))
         (also (le→leb _ _ (r .few-readers))
         (also (le→leb _ _ (r .some-words)) (also (le→leb _ _ (r .few-words)) none)))))
@@ -79,15 +82,15 @@ area-is a =
   where
     there : Each T (area-tests a) → AnArea a
     there (also x (also f (also r (also t (also s (also d (also w (also l none)))))))) =
-        let total-is : word a 3 ≡ total (table a) = eqb→eq _ _ t in
-        let slots-are : word a 4 ≡ slots-at (readers a) (capacity a) = eqb→eq _ _ s in
-        let desks-are : word a 5 ≡ desks-at (readers a) (capacity a) = eqb→eq _ _ d in
-        let writer-is : word a 6 ≡ writer-at (readers a) (capacity a) = eqb→eq _ _ w in
-        let length-is : length a ≡ total (table a) = eqb→eq _ _ l in
+        let total-is : word a 3 ≡ total (table (shape-of a)) = eqb→eq _ _ t in
+        let slots-are : word a 4 ≡ slots-at (shape-of a) = eqb→eq _ _ s in
+        let desks-are : word a 5 ≡ desks-at (shape-of a) = eqb→eq _ _ d in
+        let writer-is : word a 6 ≡ writer-at (shape-of a) = eqb→eq _ _ w in
+        let length-is : length a ≡ total (table (shape-of a)) = eqb→eq _ _ l in
         record {
           eight = leb→le _ _ x;
           form = eqb→eq _ _ f;
-          range = range-facts (readers a) (capacity a) r;
+          range = range-facts (shape-of a) r;
           total = omega (arith, total-is);
           slots = omega (arith, slots-are);
           desks = omega (arith, desks-are);
@@ -100,28 +103,28 @@ area-is a =
 
     back : AnArea a → Each T (area-tests a)
     back v =
-        let total-is : word a 3 ≡ total (table a) = omega (arith, v .total) in
-        let slots-are : word a 4 ≡ slots-at (readers a) (capacity a) = v .slots in
-        let desks-are : word a 5 ≡ desks-at (readers a) (capacity a) = omega (arith, v .desks) in
-        let writer-is : word a 6 ≡ writer-at (readers a) (capacity a) = omega (arith, v .writer) in
-        let length-is : length a ≡ total (table a) = omega (arith, v .exact) in
+        let total-is : word a 3 ≡ total (table (shape-of a)) = omega (arith, v .total) in
+        let slots-are : word a 4 ≡ slots-at (shape-of a) = v .slots in
+        let desks-are : word a 5 ≡ desks-at (shape-of a) = omega (arith, v .desks) in
+        let writer-is : word a 6 ≡ writer-at (shape-of a) = omega (arith, v .writer) in
+        let length-is : length a ≡ total (table (shape-of a)) = omega (arith, v .exact) in
         also (le→leb _ _ (v .eight))
         (also (same _ _ (v .form))
-        (also (true-passes _ (range-is (readers a) (capacity a) .1 (v .range)))
+        (also (true-passes _ (range-is (shape-of a) .1 (v .range)))
         (also (same _ _ total-is)
         (also (same _ _ slots-are)
         (also (same _ _ desks-are) (also (same _ _ writer-is) (also (same _ _ length-is) none)))))))
 
 -- what a layout needs of it, by the table
 pub record AreaFacts (a : List ℕ) : Type 0 where
-  pub range : InRange (readers a) (capacity a)
-  pub exact : length a ≡ total (table a)
+  pub range : InRange (shape-of a)
+  pub exact : length a ≡ total (table (shape-of a))
 
 pub area-facts : (a : List ℕ) → is-area a ≡ true → AreaFacts a
 area-facts a e = let v = area-is a .0 e in record { range = v .range; exact = omega (arith, v .exact) }
 
 pub undamaged-is : (a : List ℕ) → (undamaged a ≡ true) ↔ Undamaged a
-undamaged-is a = (whole-area a, sound-area a (readers a) (capacity a) refl refl)
+undamaged-is a = (whole-area a, sound-area a (shape-of a) refl)
 
 -- showing: the area is undamaged, the reader exists, is idle and has finished
 pub own-is : (a : List ℕ) (r : ℕ) → (is-own a r ≡ true) ↔ OwnToShow a r

@@ -4,7 +4,7 @@ mod Shortcuts
 mod Touches
 mod AgeRuns
 mod Whole
-pub mod Form1
+pub mod Body
 pub mod Rows
 pub mod Facts
 pub mod Numbers

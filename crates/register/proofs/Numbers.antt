@@ -13,55 +13,52 @@ use lib.ListN.{length}
 use borrow.Author.Tests.{eqb-false}
 use Rattle.theory.specs.Place.{Record, Memory}
 use Rattle.theory.specs.Table.{total}
-use Rattle.register.specs.Area.{form1, in-range, known-form}
-use Rattle.register.specs.Area.{readers, capacity, is-area, undamaged, memory}
-use Rattle.register.specs.Area.{current, counter, r-start, r-end, size, phase, last, pos, len}
-use Rattle.register.specs.Area.{writer-phase, last-slot, in-hand, writes-ended, most-writes}
+use Rattle.register.specs.Shape.{Shape, table, in-range, known-form}
+use Rattle.register.specs.Area.{shape-of, readers, is-area, undamaged, memory, current, counter, r-start}
+use Rattle.register.specs.Area.{r-end, size, phase, last, pos, len, writer-phase, last-slot, in-hand}
+use Rattle.register.specs.Area.{writes-ended, most-writes}
 use Rattle.register.specs.Conditions.{InRange, T-of, AnArea, Undamaged}
 use Rattle.register.specs.Steps
-use Rattle.register.specs.Steps.{Plan, refuse, accept, reader-step, writer-step, free, Move, read, write, step}
-use Rattle.register.specs.Steps.{mover}
+use Rattle.register.specs.Steps.{Plan, refuse, accept, reader-step, writer-step, free, Move, read, write}
+use Rattle.register.specs.Steps.{step, mover}
 use Rattle.register.specs.Calls.{refused, made, carried-out, answered, read-begun, write-begun, stepped}
-use Rattle.register.specs.Numbers.{Row, _if_, Given, make-rows, Idle}
-use Rattle.register.specs.Numbers.{reader, writer, LastNotFree, Overfull, gone}
-use Rattle.register.specs.Numbers.{bound, read-rows, write-rows, step-rows, Numbers}
-use Rattle.theory.proofs.Tests.{true-passes, both}
-use Rattle.theory.proofs.Tests.{end, next, at-number, if-true}
-use Rattle.theory.proofs.Tests.{if-equal, if-less, differ-and-same, not-differ-and-same}
-use Rattle.register.proofs.Facts.{its-plan, range-facts}
-use Rattle.register.proofs.Facts.{number-of}
-use Rattle.register.proofs.Rows.{Says, unless-not, unless-below, unless-at-most, unless-equal, row}
-use Rattle.register.proofs.Rows.{passes, holds, nothing-more}
-use Rattle.register.proofs.Facts.{range-is, area-is, undamaged-is, own-is}
+use Rattle.register.specs.Numbers.{Row, _if_, Given, make-rows, Idle, reader, writer, LastNotFree, Overfull}
+use Rattle.register.specs.Numbers.{gone, bound, read-rows, write-rows, step-rows, Numbers}
+use Rattle.theory.proofs.Tests.{true-passes, both, end, next, at-number, if-true, if-equal, if-less, differ-and-same}
+use Rattle.theory.proofs.Tests.{not-differ-and-same}
+use Rattle.register.proofs.Facts.{its-plan, every-call, range-facts, number-of, range-is, area-is}
+use Rattle.register.proofs.Facts.{undamaged-is, own-is}
+use Rattle.register.proofs.Rows.{Says, unless-not, unless-below, unless-at-most, unless-equal, row, passes}
+use Rattle.register.proofs.Rows.{holds, nothing-more}
 
 -- ---- making
 
-module _ (form n c : ℕ) (v : Record) (a : List ℕ) where
-  unfit : Says (known-form form && in-range n c) ((form ≢ 1) ⊎ (¬ InRange n c))
-  unfit = (λ e. go (known-form form) (in-range n c) refl refl e, fits)
+module _ (k : Shape) (v : Record) (a : List ℕ) where
+  unfit : Says (known-form (k .form) && in-range k) ((k .form ≢ 1) ⊎ (¬ InRange k))
+  unfit = (λ e. go (known-form (k .form)) (in-range k) refl refl e, fits)
     where
-      go : (x y : Bool) → known-form form ≡ x → in-range n c ≡ y → x && y ≡ false
-          → (form ≢ 1) ⊎ (¬ InRange n c)
+      go : (x y : Bool) → known-form (k .form) ≡ x → in-range k ≡ y → x && y ≡ false
+          → (k .form ≢ 1) ⊎ (¬ InRange k)
       go true true d e f = absurd (true≢false f)
-      go true false d e f = inr (λ r. true≢false (sym (range-is n c .1 r) ∙ e))
-      go false y d e f = inl (eqb-false form 1 d)
+      go true false d e f = inr (λ r. true≢false (sym (range-is k .1 r) ∙ e))
+      go false y d e f = inl (eqb-false (k .form) 1 d)
 
-      fits : known-form form && in-range n c ≡ true → ¬ ((form ≢ 1) ⊎ (¬ InRange n c))
+      fits : known-form (k .form) && in-range k ≡ true → ¬ ((k .form ≢ 1) ⊎ (¬ InRange k))
       fits e =
-          let (f, r) = both (known-form form) (in-range n c) (true-passes _ e) in
-          ⊎-elim (λ d. d (eqb→eq form 1 f)) (λ d. d (range-facts n c r))
+          let (f, r) = both (known-form (k .form)) (in-range k) (true-passes _ e) in
+          ⊎-elim (λ d. d (eqb→eq (k .form) 1 f)) (λ d. d (range-facts k r))
 
-  another-length : Says (eqb (length a) (total (form1 n c))) (length a ≢ T-of n c)
+  another-length : Says (eqb (length a) (total (table k))) (length a ≢ T-of k)
   another-length =
-      let s = unless-equal (length a) (total (form1 n c)) in
+      let s = unless-equal (length a) (total (table k)) in
       (λ e d. s .0 e (omega (arith, d)), λ e d. s .1 e (λ f. d (omega (arith, f))))
 
-  making-number : (k : ℕ) → (made form n c v a .number ≡ k) ↔ Given (make-rows form n c v a) k
+  making-number : (i : ℕ) → (made k v a .number ≡ i) ↔ Given (make-rows k v a) i
   unfolding made
-  making-number k =
-      row (λ x. x .number) (known-form form && in-range n c) _ (refused 9 a) unfit
-      (row (λ x. x .number) (eqb (length a) (total (form1 n c))) _ (refused 10 a) another-length
-      (row (λ x. x .number) (leb (length v) c) _ (refused 4 a) (unless-at-most (length v) c) nothing-more))
+  making-number i =
+      row (λ x. x .number) (known-form (k .form) && in-range k) _ (refused 9 a) unfit
+      (row (λ x. x .number) (eqb (length a) (total (table k))) _ (refused 10 a) another-length
+      (row (λ x. x .number) (leb (length v) (k .c)) _ (refused 4 a) (unless-at-most (length v) (k .c)) nothing-more))
 
 -- ---- calls on an existing area: 1 and 2 in front of what the plan gives
 
@@ -74,10 +71,10 @@ tested : (a : List ℕ) (x : Move) {l : List Row} {k : ℕ}
     → (is-area a ≡ true → undamaged a ≡ true → (number-of (its-plan a x) ≡ k) ↔ Given l k)
     → (answered a x .number ≡ k) ↔ Given (1 if (¬ AnArea a) ∷ 2 if (¬ Undamaged a) ∷ l) k
 unfolding answered
-tested a x {l} {k} rest = go (is-area a) refl (undamaged a) refl
+tested a x {l} {k} rest = rw (every-call (shape-of a) x) (go (is-area a) refl (undamaged a) refl)
   where
     go : (b : Bool) → is-area a ≡ b → (u : Bool) → undamaged a ≡ u
-        → (cond b (cond u (carried-out (mover (readers a) x) a (its-plan a x)) (refused 2 a)) (refused 1 a) .number
+        → (cond b (cond u (carried-out (mover (shape-of a) x) a (its-plan a x)) (refused 2 a)) (refused 1 a) .number
         ≡ k)
         ↔ Given (1 if (¬ AnArea a) ∷ 2 if (¬ Undamaged a) ∷ l) k
     go false e u f = holds (unless-not (is-area a) (area-is a) .0 e)
@@ -86,7 +83,7 @@ tested a x {l} {k} rest = go (is-area a) refl (undamaged a) refl
     go true e true f =
         passes (unless-not (is-area a) (area-is a) .1 e)
         (passes (unless-not (undamaged a) (undamaged-is a) .1 f)
-        (subst (λ j. (j ≡ k) ↔ Given l k) (sym (carried-number (mover (readers a) x) a (its-plan a x)))
+        (subst (λ j. (j ≡ k) ↔ Given l k) (sym (carried-number (mover (shape-of a) x) a (its-plan a x)))
         (rest e f)))
 
 read-number : (a : List ℕ) (r k : ℕ) → (read-begun a r .number ≡ k) ↔ Given (read-rows a r) k
@@ -98,7 +95,7 @@ read-number a r k =
 write-number : (a : List ℕ) (v : Record) (k : ℕ) → (write-begun a v .number ≡ k) ↔ Given (write-rows a v) k
 write-number a v k =
     tested a (write v) λ e f.
-    row number-of (leb (length v) (capacity a)) _ (refuse 4) (unless-at-most (length v) (capacity a))
+    row number-of (leb (length v) (shape-of a .c)) _ (refuse 4) (unless-at-most (length v) (shape-of a .c))
     (row number-of (eqb (memory a writer-phase) 0) _ (refuse 5) (unless-equal (memory a writer-phase) 0)
     (row number-of (ltb (memory a writes-ended) most-writes) _ (refuse 7)
     (unless-below (memory a writes-ended) most-writes) nothing-more))
@@ -160,7 +157,7 @@ module _ (a : List ℕ) (p k : ℕ) where
         there f (gone h x y) = omega arith
         there f (bound h x y) = s .1 f (omega arith)
 
-    reader-number : Undamaged a → Meets (reader-step n m p)
+    reader-number : Undamaged a → Meets (reader-step (shape-of a) m p)
     unfolding reader-step
     reader-number w =
         at-number Meets (m (phase p)) 0 (m (phase p)) _ (refuse 2) (omega arith)
@@ -196,7 +193,7 @@ module _ (a : List ℕ) (p k : ℕ) where
         → (0 ≡ k) ↔ Given (3 if (n < p) ∷ 6 if Idle a p ∷ last-rows) k
     looks-not d e = writes-on d (passes (λ h. e (h .looks)) (passes no-reader nothing-more))
 
-    looks-at : m writer-phase ≡ 1 → Meets (Steps.looks n m)
+    looks-at : m writer-phase ≡ 1 → Meets (Steps.looks (shape-of a) m)
     looks-at e =
         if-true Meets (free m) _ _ (λ f. found (λ h. taken-not f (h .taken)))
         (λ f. if-equal Meets (m in-hand) (suc n) (refuse 8) _
@@ -224,7 +221,7 @@ module _ (a : List ℕ) (p k : ℕ) where
             go (yes y) = inl y
             go (no y) = inr (not-differ-and-same _ _ _ _ f y)
 
-    writer-number : Undamaged a → Meets (writer-step n m)
+    writer-number : Undamaged a → Meets (writer-step (shape-of a) m)
     unfolding writer-step
     writer-number w =
         at-number Meets (m writer-phase) 0 (m writer-phase) _ (refuse 2) (omega arith)
@@ -245,8 +242,8 @@ module _ (a : List ℕ) (p k : ℕ) where
   step-number =
       tested a (step p) λ e f.
       let w = undamaged-is a .0 f in
-      if-less Meets p n (reader-step n m p) _ (λ l. reader-number l w)
-      (λ l. if-equal Meets p n (writer-step n m) (refuse 3) (λ i. writer-number i w) (λ d. holds (omega arith)))
+      if-less Meets p n (reader-step (shape-of a) m p) _ (λ l. reader-number l w)
+      (λ l. if-equal Meets p n (writer-step (shape-of a) m) (refuse 3) (λ i. writer-number i w) (λ d. holds (omega arith)))
 
 -- ---- the theorem
 

@@ -4,16 +4,16 @@ use mathlib.Core.Path.{_≡_, refl}
 use mathlib.Core.List.{List, [], _∷_, _++_}
 use Prim.Native.Nat.{ℕ}
 use lib.ListN.{replicate}
+use Rattle.register.specs.Shape.{shape}
 use Rattle.register.specs.Area.{is-area, slot-sound, desk-sound, writer-sound, undamaged}
 use Rattle.register.specs.Steps.{reader-step, writer-step, Move, read, write, step}
-use Rattle.register.specs.Calls.{fresh, carried-out, answered, is-own, shown}
-use Rattle.register.specs.Calls.{after}
+use Rattle.register.specs.Calls.{fresh, carried-out, answered, is-own, shown, after}
 use Rattle.theory.specs.Lists.{Each, none, also}
 use Rattle.register.proofs.SmallRuns.{Row, row-of, said, answer-to, current-word}
 
 -- one reader, records of at most one word; the starting record is 5, the writes are 6 and 7
 abbrev area5 : List ℕ
-area5 = fresh 1 1 (5 ∷ [])
+area5 = fresh (shape 1 1 1) (5 ∷ [])
 
 abbrev write6 : Move
 write6 = write (6 ∷ [])
@@ -46,7 +46,7 @@ filled-again =
 
 abbrev rows : List Row
 rows =
-    row-of (current-word (after (fresh 1 1 []) counted-once) ∷ []) (1 ∷ [])
+    row-of (current-word (after (fresh (shape 1 1 1) []) counted-once) ∷ []) (1 ∷ [])
     ∷ row-of (said (answer-to area5 bound-after-copy (step 0))) (0 ∷ 1 ∷ 1 ∷ 5 ∷ [])
     ∷ row-of (said (answer-to area5 frozen-old (step 0))) (0 ∷ 1 ∷ 1 ∷ 5 ∷ [])
     ∷ row-of (said (answer-to area5 last-slot-kept (step 0))) (0 ∷ 1 ∷ 0 ∷ 5 ∷ [])

@@ -6,13 +6,12 @@ use Prim.Native.Nat.{ℕ}
 use lib.ListN.{getD, take, replicate}
 use Rattle.theory.specs.Place.{Record}
 use Rattle.theory.specs.Table.{total}
-use Rattle.register.specs.Area.{form1, current, writer-phase, in-hand}
-use Rattle.register.specs.Area.{is-area, slot-sound, desk-sound, writer-sound}
+use Rattle.register.specs.Shape.{shape, table}
+use Rattle.register.specs.Area.{current, writer-phase, in-hand, is-area, slot-sound, desk-sound, writer-sound}
 use Rattle.register.specs.Area.{undamaged, memory}
 use Rattle.register.specs.Steps.{reader-step, writer-step, Move, read, write, step}
-use Rattle.register.specs.Calls.{Answer, fresh, carried-out, answered, is-own, shown}
+use Rattle.register.specs.Calls.{Answer, fresh, carried-out, answered, is-own, shown, after}
 use Rattle.theory.specs.Lists.{Each, none, also}
-use Rattle.register.specs.Calls.{after}
 
 -- the answer to a move after some others
 abbrev pub answer-to : List ℕ → List Move → Move → Answer
@@ -31,10 +30,10 @@ abbrev pub written : Record → ℕ → List Move
 written v k = write v ∷ replicate k (step 1)
 
 abbrev pub areaP1 : List ℕ
-areaP1 = fresh 1 1 (7 ∷ [])
+areaP1 = fresh (shape 1 1 1) (7 ∷ [])
 
 abbrev areaP8 : List ℕ
-areaP8 = fresh 1 2 (1 ∷ 2 ∷ [])
+areaP8 = fresh (shape 1 1 2) (1 ∷ 2 ∷ [])
 
 -- the moves of input A, of which the last is refused
 abbrev pub input-A : List Move
@@ -76,7 +75,7 @@ small-runs =
     row-of (getD areaP1 3 0 ∷ getD areaP1 4 0 ∷ getD areaP1 5 0 ∷ getD areaP1 6 0 ∷ current-word areaP1 ∷ [])
     (38 ∷ 8 ∷ 23 ∷ 30 ∷ 1 ∷ [])
     -- P2, P3
-    ∷ row-of (total (form1 2 2) ∷ total (form1 64 256) ∷ []) (57 ∷ 34199 ∷ [])
+    ∷ row-of (total (table (shape 1 2 2)) ∷ total (table (shape 1 64 256)) ∷ []) (57 ∷ 34199 ∷ [])
     -- P4, P5
     ∷ row-of (current-word (after areaP1 (take 8 input-A)) ∷ current-word (after areaP1 (take 12 input-A)) ∷ [])
     (4294967296 ∷ 4294967297 ∷ [])

@@ -7,6 +7,7 @@ use mathlib.Core.List.{List, [], _∷_, _++_}
 use Prim.Native.Nat.{ℕ, suc}
 use lib.Dec.{eqb}
 use lib.ListN.{replicate}
+use Rattle.register.specs.Shape.{shape}
 use Rattle.register.specs.Area.{is-area, slot-sound, desk-sound, writer-sound, undamaged}
 use Rattle.register.specs.Steps.{reader-step, writer-step, Move, read, write, step}
 use Rattle.register.specs.Calls.{fresh, carried-out, answered}
@@ -46,7 +47,7 @@ touched a x =
 abbrev rows : List Row
 rows =
     -- a fresh area, every word
-    row-of (fresh 2 2 (7 ∷ []))
+    row-of (fresh (shape 1 2 2) (7 ∷ []))
     ((1 ∷ 2 ∷ 2 ∷ 57 ∷ 8 ∷ 32 ∷ 48 ∷ 2 ∷ []) ++ (0 ∷ 0 ∷ 1 ∷ 0 ∷ 7 ∷ []) ++ replicate 44 0)
     -- the begins
     ∷ row-of (touched (reading-at 0 1 1) (read 1)) (0 ∷ 0 ∷ 0 ∷ (45 ∷ 0 ∷ 1 ∷ []))

@@ -10,30 +10,27 @@ use native.Mathlib.Omega.{arith}
 use lib.Dec.{T, eqb, leb, ltb, eqb→eq, leb→le, le→leb, ltb→lt, lt→ltb}
 use borrow.Author.Tests.{eq-eqb, ne-eqb}
 use Rattle.theory.specs.Place.{Memory}
-use Rattle.register.specs.Area.{current, index, counter, limit}
-use Rattle.register.specs.Area.{phase}
-use Rattle.register.specs.Area.{writer-phase, writer-pos, old-word}
-use Rattle.theory.specs.Lists.{all}
-use Rattle.register.specs.Area.{word-sound, slot-sound, desk-sound, writer-sound}
-use Rattle.register.specs.Area.{slot-tests, desk-tests, writer-tests, memory-tests}
+use Rattle.register.specs.Area.{current, index, counter, phase, writer-phase, writer-pos, old-word}
+use Rattle.register.specs.Area.{word-sound, slot-sound, desk-sound, writer-sound, slot-tests, desk-tests}
+use Rattle.register.specs.Area.{writer-tests, memory-tests}
+use Rattle.register.specs.Shape.{Shape, limit}
+use Rattle.theory.specs.Lists.{all, Each, none, also}
 use Rattle.register.specs.Conditions.{WordWhole, Slot, Desk, Writer, Whole}
-use Rattle.theory.specs.Lists.{Each, none, also}
-use Rattle.theory.proofs.Tests.{both, joined, each-passes, all-pass}
-use Rattle.theory.proofs.Tests.{where-passed, unless-passed, where-failed, unless-failed, each-of, of-each}
-use Rattle.theory.proofs.Tests.{true-passes}
+use Rattle.theory.proofs.Tests.{both, joined, each-passes, all-pass, where-passed, unless-passed, where-failed}
+use Rattle.theory.proofs.Tests.{unless-failed, each-of, of-each, true-passes}
 
 -- ---- from the test
 
-pub word-of : (n w : ℕ) → T (word-sound n w) → WordWhole n w
-word-of n w t =
-    let (a, b) = both (ltb (index w) (n + 2)) _ t in record { slot = ltb→lt _ _ a; count = leb→le _ _ b }
+pub word-of : (k : Shape) (w : ℕ) → T (word-sound k w) → WordWhole k w
+word-of k w t =
+    let (a, b) = both (ltb (index w) (k .n + 2)) _ t in record { slot = ltb→lt _ _ a; count = leb→le _ _ b }
 
-slot-facts : (n c : ℕ) (m : Memory) (s : ℕ) → Each T (slot-tests n c m s) → Slot n c m s
-slot-facts n c m s (also a (also b (also d none))) =
+slot-facts : (k : Shape) (m : Memory) (s : ℕ) → Each T (slot-tests k m s) → Slot k m s
+slot-facts k m s (also a (also b (also d none))) =
     record { start = leb→le _ _ a; end = leb→le _ _ b; words = leb→le _ _ d }
 
-desk-facts : (n c : ℕ) (m : Memory) (r : ℕ) → Each T (desk-tests n c m r) → Desk n c m r
-desk-facts n c m r (also a (also b (also d (also e (also f (also g none)))))) =
+desk-facts : (k : Shape) (m : Memory) (r : ℕ) → Each T (desk-tests k m r) → Desk k m r
+desk-facts k m r (also a (also b (also d (also e (also f (also g none)))))) =
     record {
       phases = leb→le _ _ a;
       slot = ltb→lt _ _ b;
@@ -43,53 +40,53 @@ desk-facts n c m r (also a (also b (also d (also e (also f (also g none)))))) =
       copying = λ y. ltb→lt _ _ (where-passed _ _ g (eq-eqb _ _ y));
     }
 
-writer-facts : (n c : ℕ) (m : Memory) → Each T (writer-tests n c m) → Writer n c m
-writer-facts n c m (also a (also b (also d (also e (also f (also g (also h (also i (also j none))))))))) =
+writer-facts : (k : Shape) (m : Memory) → Each T (writer-tests k m) → Writer k m
+writer-facts k m (also a (also b (also d (also e (also f (also g (also h (also i (also j none))))))))) =
     record {
       phases = leb→le _ _ a;
       last-one = ltb→lt _ _ b;
       hand-one = ltb→lt _ _ d;
       part = leb→le _ _ e;
       words = leb→le _ _ f;
-      before = word-of n (m old-word) g;
+      before = word-of k (m old-word) g;
       copying = λ y. ltb→lt _ _ (where-passed _ _ h (eq-eqb _ _ y));
       unmoved = λ y. eqb→eq _ _ (where-passed _ _ i (eq-eqb _ _ y));
       room = λ y. ltb→lt _ _ (where-failed _ _ j (ne-eqb _ _ y));
     }
 
-memory-facts : (n c : ℕ) (m : Memory) → Each T (memory-tests n c m) → Whole n c m
+memory-facts : (k : Shape) (m : Memory) → Each T (memory-tests k m) → Whole k m
 unfolding slot-sound desk-sound writer-sound
-memory-facts n c m (also w (also a (also b (also d none)))) =
+memory-facts k m (also w (also a (also b (also d none)))) =
     record {
-      word = word-of n (m current) w;
+      word = word-of k (m current) w;
       slot = λ s l.
-          slot-facts n c m s
-          (each-passes (slot-tests n c m s) (each-of (n + 2) 0 (slot-sound n c m) a s (omega arith) (omega arith)));
+          slot-facts k m s
+          (each-passes (slot-tests k m s) (each-of (k .n + 2) 0 (slot-sound k m) a s (omega arith) (omega arith)));
       desk = λ r l.
-          desk-facts n c m r
-          (each-passes (desk-tests n c m r) (each-of n 0 (desk-sound n c m) b r (omega arith) (omega arith)));
-      writer = writer-facts n c m (each-passes (writer-tests n c m) d);
+          desk-facts k m r
+          (each-passes (desk-tests k m r) (each-of (k .n) 0 (desk-sound k m) b r (omega arith) (omega arith)));
+      writer = writer-facts k m (each-passes (writer-tests k m) d);
     }
 
-pub whole-of : (n c : ℕ) (m : Memory) → T (all (memory-tests n c m)) → Whole n c m
-whole-of n c m t = memory-facts n c m (each-passes (memory-tests n c m) t)
+pub whole-of : (k : Shape) (m : Memory) → T (all (memory-tests k m)) → Whole k m
+whole-of k m t = memory-facts k m (each-passes (memory-tests k m) t)
 
 -- ---- to the test
 
-of-word : (n w : ℕ) → WordWhole n w → T (word-sound n w)
-of-word n w v =
-    joined (ltb (index w) (n + 2)) (leb (counter w) (limit n)) (lt→ltb _ _ (v .slot)) (le→leb _ _ (v .count))
+of-word : (k : Shape) (w : ℕ) → WordWhole k w → T (word-sound k w)
+of-word k w v =
+    joined (ltb (index w) (k .n + 2)) (leb (counter w) (limit k)) (lt→ltb _ _ (v .slot)) (le→leb _ _ (v .count))
 
-of-slot : (n c : ℕ) (m : Memory) (s : ℕ) → Slot n c m s → T (slot-sound n c m s)
+of-slot : (k : Shape) (m : Memory) (s : ℕ) → Slot k m s → T (slot-sound k m s)
 unfolding slot-sound
-of-slot n c m s v =
-    all-pass (slot-tests n c m s)
+of-slot k m s v =
+    all-pass (slot-tests k m s)
     (also (le→leb _ _ (v .start)) (also (le→leb _ _ (v .end)) (also (le→leb _ _ (v .words)) none)))
 
-of-desk : (n c : ℕ) (m : Memory) (r : ℕ) → Desk n c m r → T (desk-sound n c m r)
+of-desk : (k : Shape) (m : Memory) (r : ℕ) → Desk k m r → T (desk-sound k m r)
 unfolding desk-sound
-of-desk n c m r v =
-    all-pass (desk-tests n c m r)
+of-desk k m r v =
+    all-pass (desk-tests k m r)
     (also (le→leb _ _ (v .phases))
     (also (lt→ltb _ _ (v .slot))
     (also (le→leb _ _ (v .part))
@@ -98,16 +95,16 @@ of-desk n c m r v =
     (also (unless-passed (eqb (m (phase r)) 5) _
     (λ e. lt→ltb _ _ (v .copying (eqb→eq _ _ (true-passes _ e))))) none))))))
 
-of-writer : (n c : ℕ) (m : Memory) → Writer n c m → T (writer-sound n c m)
+of-writer : (k : Shape) (m : Memory) → Writer k m → T (writer-sound k m)
 unfolding writer-sound
-of-writer n c m v =
-    all-pass (writer-tests n c m)
+of-writer k m v =
+    all-pass (writer-tests k m)
     (also (le→leb _ _ (v .phases))
     (also (lt→ltb _ _ (v .last-one))
     (also (lt→ltb _ _ (v .hand-one))
     (also (le→leb _ _ (v .part))
     (also (le→leb _ _ (v .words))
-    (also (of-word n (m old-word) (v .before))
+    (also (of-word k (m old-word) (v .before))
     (also (unless-passed (eqb (m writer-phase) 2) _ (λ e. lt→ltb _ _ (v .copying (eqb→eq _ _ (true-passes _ e)))))
     (also (unless-passed (eqb (m writer-phase) 1) _ (λ e. still (v .unmoved (eqb→eq _ _ (true-passes _ e)))))
     (also (unless-failed (eqb (m writer-phase) 0) _ (λ e. lt→ltb _ _ (v .room (busy e)))) none)))))))))
@@ -118,10 +115,10 @@ of-writer n c m v =
     busy : eqb (m writer-phase) 0 ≡ false → m writer-phase ≢ 0
     busy e z = subst T (sym (eq-eqb _ _ z) ∙ e) tt
 
-pub of-whole : (n c : ℕ) (m : Memory) → Whole n c m → T (all (memory-tests n c m))
-of-whole n c m v =
-    all-pass (memory-tests n c m)
-    (also (of-word n (m current) (v .word))
-    (also (of-each (n + 2) 0 (slot-sound n c m) (λ s lo hi. of-slot n c m s (v .slot s (omega arith))))
-    (also (of-each n 0 (desk-sound n c m) (λ r lo hi. of-desk n c m r (v .desk r (omega arith))))
-    (also (of-writer n c m (v .writer)) none))))
+pub of-whole : (k : Shape) (m : Memory) → Whole k m → T (all (memory-tests k m))
+of-whole k m v =
+    all-pass (memory-tests k m)
+    (also (of-word k (m current) (v .word))
+    (also (of-each (k .n + 2) 0 (slot-sound k m) (λ s lo hi. of-slot k m s (v .slot s (omega arith))))
+    (also (of-each (k .n) 0 (desk-sound k m) (λ r lo hi. of-desk k m r (v .desk r (omega arith))))
+    (also (of-writer k m (v .writer)) none))))

@@ -1,43 +1,14 @@
--- The area of form 1: its table, its places by their names, what an area is, when it is undamaged. Assumes nothing.
-use mathlib.Core.Bool.{Bool, true, _&&_, _||_, not}
+-- The area: its places by their names, what an area is, when it is undamaged. Assumes nothing.
+use mathlib.Core.Bool.{Bool, _&&_, _||_, not}
 use mathlib.Core.List.{List, [], _∷_}
-use Prim.Native.Nat.{ℕ, zero, suc, _+_, _/_, _%_}
+use Prim.Native.Nat.{ℕ, _+_, _/_, _%_}
 use lib.Dec.{eqb, leb, ltb}
 use lib.ListN.{length, getD}
 use Rattle.theory.specs.Lists.{all, every}
 use Rattle.theory.specs.Place.{Place, Memory}
-use Rattle.theory.specs.Table.{Table, base, total, view}
-
--- ---- the table: part 0 is the header, 1 the slots, 2 the reader desks, 3 the writer desk
-
-abbrev pub rows : ℕ → ℕ → ℕ
-rows n zero = 1
-rows n (suc zero) = n + 2
-rows n (suc (suc zero)) = n
-rows n (suc (suc (suc g))) = 1
-
-abbrev pub singles : ℕ → ℕ
-singles zero = 7
-singles (suc zero) = 4
-singles (suc (suc zero)) = 6
-singles (suc (suc (suc g))) = 7
-
-abbrev pub last-words : ℕ → ℕ → ℕ
-last-words c zero = 1
-last-words c (suc g) = c
-
--- n readers, records of at most c words
-abbrev pub form1 : ℕ → ℕ → Table
-form1 n c = record { parts = 4; rows = rows n; singles = singles; last-words = last-words c }
-
-abbrev pub slots-at : ℕ → ℕ → ℕ
-slots-at n c = base (form1 n c) 1
-
-abbrev pub desks-at : ℕ → ℕ → ℕ
-desks-at n c = base (form1 n c) 2
-
-abbrev pub writer-at : ℕ → ℕ → ℕ
-writer-at n c = base (form1 n c) 3
+use Rattle.theory.specs.Table.{total, view}
+use Rattle.register.specs.Shape.{Shape, shape, known-form, table, slots-at, desks-at, writer-at, in-range}
+use Rattle.register.specs.Shape.{limit}
 
 -- ---- the header
 
@@ -131,46 +102,30 @@ write-record i = record { part = 3; field = 7; row = 0; column = i }
 
 -- ---- numbers
 
--- N is 1 to 64, C is 1 to 256
-abbrev pub range-tests : ℕ → ℕ → List Bool
-range-tests n c = leb 1 n ∷ leb n 64 ∷ leb 1 c ∷ leb c 256 ∷ []
-
-abbrev pub in-range : ℕ → ℕ → Bool
-in-range n c = all (range-tests n c)
-
-abbrev pub known-form : ℕ → Bool
-known-form f = eqb f 1
-
--- the most that r_start, r_end and the counters may be
-abbrev pub limit : ℕ → ℕ
-limit n = n
-
 -- the most that writes ended may be: 2^64 − 1
 abbrev pub most-writes : ℕ
 most-writes = 18446744073709551615
 
 -- ---- test 1: an area
 
+-- the shape that words 0, 1 and 2 say
+abbrev pub shape-of : List ℕ → Shape
+shape-of a = shape (getD a 0 0) (getD a 1 0) (getD a 2 0)
+
 abbrev pub readers : List ℕ → ℕ
-readers a = getD a 1 0
-
-abbrev pub capacity : List ℕ → ℕ
-capacity a = getD a 2 0
-
-abbrev pub table : List ℕ → Table
-table a = form1 (readers a) (capacity a)
+readers a = shape-of a .n
 
 -- eight words or more; words 0 to 6 and the length as the table has them
 abbrev pub area-tests : List ℕ → List Bool
 area-tests a =
     leb 8 (length a)
     ∷ known-form (getD a 0 0)
-    ∷ in-range (readers a) (capacity a)
-    ∷ eqb (getD a 3 0) (total (table a))
-    ∷ eqb (getD a 4 0) (slots-at (readers a) (capacity a))
-    ∷ eqb (getD a 5 0) (desks-at (readers a) (capacity a))
-    ∷ eqb (getD a 6 0) (writer-at (readers a) (capacity a))
-    ∷ eqb (length a) (total (table a))
+    ∷ in-range (shape-of a)
+    ∷ eqb (getD a 3 0) (total (table (shape-of a)))
+    ∷ eqb (getD a 4 0) (slots-at (shape-of a))
+    ∷ eqb (getD a 5 0) (desks-at (shape-of a))
+    ∷ eqb (getD a 6 0) (writer-at (shape-of a))
+    ∷ eqb (length a) (total (table (shape-of a)))
     ∷ []
 
 unfoldable pub is-area : List ℕ → Bool
@@ -178,21 +133,21 @@ is-area a = all (area-tests a)
 
 -- ---- test 2: undamaged
 
--- the current word, and the old word
-abbrev pub word-sound : ℕ → ℕ → Bool
-word-sound n w = ltb (index w) (n + 2) && leb (counter w) (limit n)
+module _ (k : Shape) where
+  -- the current word, and the old word
+  abbrev pub word-sound : ℕ → Bool
+  word-sound w = ltb (index w) (k .n + 2) && leb (counter w) (limit k)
 
-module _ (n c : ℕ) where
   abbrev pub slot-tests : Memory → ℕ → List Bool
-  slot-tests m s = leb (m (r-start s)) (limit n) ∷ leb (m (r-end s)) (limit n) ∷ leb (m (size s)) c ∷ []
+  slot-tests m s = leb (m (r-start s)) (limit k) ∷ leb (m (r-end s)) (limit k) ∷ leb (m (size s)) (k .c) ∷ []
 
   -- pos is at most len, which is at most C
   abbrev pub desk-tests : Memory → ℕ → List Bool
   desk-tests m r =
       leb (m (phase r)) 5
-      ∷ ltb (m (last r)) (n + 2)
+      ∷ ltb (m (last r)) (k .n + 2)
       ∷ leb (m (pos r)) (m (len r))
-      ∷ leb (m (len r)) c
+      ∷ leb (m (len r)) (k .c)
       ∷ leb (m (finished r)) 1
       ∷ (not (eqb (m (phase r)) 5) || ltb (m (pos r)) (m (len r)))
       ∷ []
@@ -200,11 +155,11 @@ module _ (n c : ℕ) where
   abbrev pub writer-tests : Memory → List Bool
   writer-tests m =
       leb (m writer-phase) 7
-      ∷ ltb (m last-slot) (n + 2)
-      ∷ ltb (m in-hand) (n + 2)
+      ∷ ltb (m last-slot) (k .n + 2)
+      ∷ ltb (m in-hand) (k .n + 2)
       ∷ leb (m writer-pos) (m writer-len)
-      ∷ leb (m writer-len) c
-      ∷ word-sound n (m old-word)
+      ∷ leb (m writer-len) (k .c)
+      ∷ word-sound (m old-word)
       ∷ (not (eqb (m writer-phase) 2) || ltb (m writer-pos) (m writer-len))
       ∷ (not (eqb (m writer-phase) 1) || eqb (m writer-pos) 0)
       ∷ (eqb (m writer-phase) 0 || ltb (m writes-ended) most-writes)
@@ -222,10 +177,10 @@ module _ (n c : ℕ) where
   -- in the order of addresses
   abbrev pub memory-tests : Memory → List Bool
   memory-tests m =
-      word-sound n (m current) ∷ every (n + 2) 0 (slot-sound m) ∷ every n 0 (desk-sound m) ∷ writer-sound m ∷ []
+      word-sound (m current) ∷ every (k .n + 2) 0 (slot-sound m) ∷ every (k .n) 0 (desk-sound m) ∷ writer-sound m ∷ []
 
 abbrev pub memory : List ℕ → Memory
-memory a = view (table a) a
+memory a = view (table (shape-of a)) a
 
 unfoldable pub undamaged : List ℕ → Bool
-undamaged a = all (memory-tests (readers a) (capacity a) (memory a))
+undamaged a = all (memory-tests (shape-of a) (memory a))

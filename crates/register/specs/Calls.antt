@@ -4,16 +4,15 @@ use mathlib.Core.List.{List, [], _∷_}
 use Prim.Native.Nat.{ℕ, _+_, _-_}
 use lib.Dec.{eqb, ltb, leb}
 use lib.ListN.{length, replicate}
-use Rattle.theory.specs.Lists.{words-from}
+use Rattle.theory.specs.Lists.{words-from, all}
 use Rattle.theory.specs.Place.{Record, Memory, Store, _≔_, copied}
 use Rattle.theory.specs.Table.{total, address, view, store}
-use Rattle.register.specs.Area.{form1, slots-at, desks-at, writer-at, header, current, size, contents}
-use Rattle.register.specs.Area.{phase, len, desk-write-number, finished, read-record}
-use Rattle.register.specs.Area.{writer-phase, writes-ended}
-use Rattle.theory.specs.Lists.{all}
-use Rattle.register.specs.Area.{in-range, known-form, readers, capacity, table, is-area, memory, undamaged}
-use Rattle.register.specs.Steps.{_else_, unless}
-use Rattle.register.specs.Steps.{Plan, refuse, accept, Move, read, write, step, mover, plan}
+use Rattle.register.specs.Shape.{Shape, table, slots-at, desks-at, writer-at, in-range, known-form}
+use Rattle.register.specs.Area.{header, current, size, contents, phase, len, desk-write-number, finished}
+use Rattle.register.specs.Area.{read-record, writer-phase, writes-ended, shape-of, readers, is-area, memory}
+use Rattle.register.specs.Area.{undamaged}
+use Rattle.register.specs.Steps.{_else_, unless, Plan, refuse, accept, Move, read, write, step, mover, plan}
+use Rattle.register.specs.Steps.{has-call}
 
 -- what a call returns, and the area as it leaves it
 pub record Answer : Type 0 where
@@ -27,24 +26,24 @@ refused k a = record { number = k; ended = false; age = 0; area = a }
 
 -- ---- making (I1)
 
-abbrev pub making : ℕ → ℕ → Record → List Store
-making n c v =
-    header 0 ≔ 1 ∷ header 1 ≔ n ∷ header 2 ≔ c ∷ header 3 ≔ total (form1 n c)
-    ∷ header 4 ≔ slots-at n c ∷ header 5 ≔ desks-at n c ∷ header 6 ≔ writer-at n c
-    ∷ current ≔ n ∷ size 0 ≔ length v ∷ copied (contents 0) 0 v
+abbrev pub making : Shape → Record → List Store
+making k v =
+    header 0 ≔ k .form ∷ header 1 ≔ k .n ∷ header 2 ≔ k .c ∷ header 3 ≔ total (table k)
+    ∷ header 4 ≔ slots-at k ∷ header 5 ≔ desks-at k ∷ header 6 ≔ writer-at k
+    ∷ current ≔ k .n ∷ size 0 ≔ length v ∷ copied (contents 0) 0 v
 
 -- the stores of making on words that are all 0
-abbrev pub fresh : ℕ → ℕ → Record → List ℕ
-fresh n c v = store (form1 n c) (replicate (total (form1 n c)) 0) (making n c v)
+abbrev pub fresh : Shape → Record → List ℕ
+fresh k v = store (table k) (replicate (total (table k)) 0) (making k v)
 
-unfoldable pub made : ℕ → ℕ → ℕ → Record → List ℕ → Answer
-made form n c v a =
-    unless (λ k. refused k a)
-    ((known-form form && in-range n c) else 9
-    ∷ eqb (length a) (total (form1 n c)) else 10
-    ∷ leb (length v) c else 4
+unfoldable pub made : Shape → Record → List ℕ → Answer
+made k v a =
+    unless (λ i. refused i a)
+    ((known-form (k .form) && in-range k) else 9
+    ∷ eqb (length a) (total (table k)) else 10
+    ∷ leb (length v) (k .c) else 4
     ∷ [])
-    (record { number = 0; ended = false; age = 0; area = fresh n c v })
+    (record { number = 0; ended = false; age = 0; area = fresh k v })
 
 -- ---- calls on an existing area
 
@@ -63,15 +62,18 @@ carried-out p a (accept stores ends) =
     record {
       number = 0;
       ended = ends;
-      age = cond (ends && ltb p (readers a)) (age-of (view (table a) (store (table a) a stores)) p) 0;
-      area = store (table a) a stores;
+      age =
+          cond (ends && ltb p (readers a))
+          (age-of (view (table (shape-of a)) (store (table (shape-of a)) a stores)) p) 0;
+      area = store (table (shape-of a)) a stores;
     }
 
--- every call on an existing area tests it before anything else, and then carries out its plan
+-- every call on an existing area tests it before anything else, and then carries out its plan; a call that the area's
+-- form lacks answers 1
 unfoldable pub answered : List ℕ → Move → Answer
 answered a x =
-    unless (λ k. refused k a) (is-area a else 1 ∷ undamaged a else 2 ∷ [])
-    (carried-out (mover (readers a) x) a (plan (readers a) (capacity a) (memory a) x))
+    unless (λ k. refused k a) (is-area a else 1 ∷ has-call (shape-of a) x else 1 ∷ undamaged a else 2 ∷ [])
+    (carried-out (mover (shape-of a) x) a (plan (shape-of a) (memory a) x))
 
 abbrev pub read-begun : List ℕ → ℕ → Answer
 read-begun a r = answered a (read r)
@@ -101,4 +103,4 @@ is-own a r = all (own-tests a r)
 -- the len words in that reader's desk, or the caller's whole default
 unfoldable pub shown : List ℕ → ℕ → Record → Record
 shown a r default =
-    cond (is-own a r) (words-from a (address (table a) (read-record r 0)) (memory a (len r))) default
+    cond (is-own a r) (words-from a (address (table (shape-of a)) (read-record r 0)) (memory a (len r))) default

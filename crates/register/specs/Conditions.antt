@@ -6,22 +6,36 @@ use mathlib.Core.List.{List}
 use Prim.Native.Nat.{ℕ, _+_, _*_, _/_, _%_, _≤_, _<_}
 use lib.ListN.{length, getD}
 use Rattle.theory.specs.Place.{Memory}
-use Rattle.register.specs.Area.{current, r-start, r-end, size}
-use Rattle.register.specs.Area.{phase, last, pos, len, finished}
-use Rattle.register.specs.Area.{writer-phase, last-slot, in-hand, writer-pos, writer-len, old-word}
-use Rattle.register.specs.Area.{writes-ended, memory}
+use Rattle.register.specs.Area.{current, r-start, r-end, size, phase, last, pos, len, finished, writer-phase}
+use Rattle.register.specs.Area.{last-slot, in-hand, writer-pos, writer-len, old-word, writes-ended, shape-of}
+use Rattle.register.specs.Area.{memory}
+use Rattle.register.specs.Shape.{Shape}
 
 -- ---- numbers: N is 1 to 64, C is 1 to 256
 
-pub record InRange (n c : ℕ) : Type 0 where
-  pub some-readers : 1 ≤ n
-  pub few-readers : n ≤ 64
-  pub some-words : 1 ≤ c
-  pub few-words : c ≤ 256
+pub record InRange (k : Shape) : Type 0 where
+  pub some-readers : 1 ≤ k .n
+  pub few-readers : k .n ≤ 64
+  pub some-words : 1 ≤ k .c
+  pub few-words : k .c ≤ 256
 
--- the total T
-abbrev pub T-of : ℕ → ℕ → ℕ
-T-of n c = 8 + (n + 2) * (4 + c) + n * (6 + c) + 7 + c
+-- ---- the layout: the words of a slot and of a desk, where the desks begin, the total T
+
+module _ (k : Shape) where
+  abbrev pub slot-words : ℕ
+  slot-words = 4 + k .c
+
+  abbrev pub desk-words : ℕ
+  desk-words = 6 + k .c
+
+  abbrev pub desks-from : ℕ
+  desks-from = 8 + (k .n + 2) * slot-words
+
+  abbrev pub writer-from : ℕ
+  writer-from = desks-from + k .n * desk-words
+
+  abbrev pub T-of : ℕ
+  T-of = writer-from + 7 + k .c
 
 -- ---- an area: eight words or more, and words 0 to 6 and the length are as the layout has them
 
@@ -33,66 +47,66 @@ module _ (a : List ℕ) where
   pub record AnArea : Type 0 where
     pub eight : 8 ≤ length a
     pub form : word 0 ≡ 1
-    pub range : InRange (word 1) (word 2)
-    pub total : word 3 ≡ T-of (word 1) (word 2)
+    pub range : InRange (shape-of a)
+    pub total : word 3 ≡ T-of (shape-of a)
     pub slots : word 4 ≡ 8
-    pub desks : word 5 ≡ 8 + (word 1 + 2) * (4 + word 2)
-    pub writer : word 6 ≡ 8 + (word 1 + 2) * (4 + word 2) + word 1 * (6 + word 2)
-    pub exact : length a ≡ T-of (word 1) (word 2)
+    pub desks : word 5 ≡ desks-from (shape-of a)
+    pub writer : word 6 ≡ writer-from (shape-of a)
+    pub exact : length a ≡ T-of (shape-of a)
 
 -- ---- undamaged
 
 -- the current word, or the old word: its index is below N + 2, its counter at most N
-pub record WordWhole (n word : ℕ) : Type 0 where
-  pub slot : word / 4294967296 < n + 2
-  pub count : word % 4294967296 ≤ n
+pub record WordWhole (k : Shape) (word : ℕ) : Type 0 where
+  pub slot : word / 4294967296 < k .n + 2
+  pub count : word % 4294967296 ≤ k .n
 
 -- r_start and r_end are at most N, size is at most C
-pub record SlotWhole (n c started gone size : ℕ) : Type 0 where
-  pub start : started ≤ n
-  pub end : gone ≤ n
-  pub words : size ≤ c
+pub record SlotWhole (k : Shape) (started gone size : ℕ) : Type 0 where
+  pub start : started ≤ k .n
+  pub end : gone ≤ k .n
+  pub words : size ≤ k .c
 
 -- pos is at most len, len at most C; pos is below len in phase 5
-pub record DeskWhole (n c phase last pos len finished : ℕ) : Type 0 where
+pub record DeskWhole (k : Shape) (phase last pos len finished : ℕ) : Type 0 where
   pub phases : phase ≤ 5
-  pub slot : last < n + 2
+  pub slot : last < k .n + 2
   pub part : pos ≤ len
-  pub words : len ≤ c
+  pub words : len ≤ k .c
   pub flag : finished ≤ 1
   pub copying : phase ≡ 5 → pos < len
 
 -- pos is below len in phase 2 and 0 in phase 1; writes ended is below 2^64 − 1 unless the phase is 0
-pub record WriterWhole (n c phase last hand pos len old ended : ℕ) : Type 0 where
+pub record WriterWhole (k : Shape) (phase last hand pos len old ended : ℕ) : Type 0 where
   pub phases : phase ≤ 7
-  pub last-one : last < n + 2
-  pub hand-one : hand < n + 2
+  pub last-one : last < k .n + 2
+  pub hand-one : hand < k .n + 2
   pub part : pos ≤ len
-  pub words : len ≤ c
-  pub before : WordWhole n old
+  pub words : len ≤ k .c
+  pub before : WordWhole k old
   pub copying : phase ≡ 2 → pos < len
   pub unmoved : phase ≡ 1 → pos ≡ 0
   pub room : phase ≢ 0 → ended < 18446744073709551615
 
-module _ (n c : ℕ) (m : Memory) where
+module _ (k : Shape) (m : Memory) where
   abbrev pub Slot : ℕ → Type 0
-  Slot s = SlotWhole n c (m (r-start s)) (m (r-end s)) (m (size s))
+  Slot s = SlotWhole k (m (r-start s)) (m (r-end s)) (m (size s))
 
   abbrev pub Desk : ℕ → Type 0
-  Desk r = DeskWhole n c (m (phase r)) (m (last r)) (m (pos r)) (m (len r)) (m (finished r))
+  Desk r = DeskWhole k (m (phase r)) (m (last r)) (m (pos r)) (m (len r)) (m (finished r))
 
   abbrev pub Writer : Type 0
   Writer =
-      WriterWhole n c (m writer-phase) (m last-slot) (m in-hand) (m writer-pos) (m writer-len) (m old-word)
+      WriterWhole k (m writer-phase) (m last-slot) (m in-hand) (m writer-pos) (m writer-len) (m old-word)
       (m writes-ended)
 
   -- the current word, every slot, every reader's desk, the writer's desk
   pub record Whole : Type 0 where
-    pub word : WordWhole n (m current)
-    pub slot : (s : ℕ) → s < n + 2 → Slot s
-    pub desk : (r : ℕ) → r < n → Desk r
+    pub word : WordWhole k (m current)
+    pub slot : (s : ℕ) → s < k .n + 2 → Slot s
+    pub desk : (r : ℕ) → r < k .n → Desk r
     pub writer : Writer
 
 -- of any words
 abbrev pub Undamaged : List ℕ → Type 0
-Undamaged a = Whole (word a 1) (word a 2) (memory a)
+Undamaged a = Whole (shape-of a) (memory a)

@@ -8,9 +8,9 @@ use mathlib.Core.List.{List, [], _∷_}
 use Prim.Native.Nat.{ℕ, _+_, _%_, _≤_, _<_}
 use lib.ListN.{length}
 use Rattle.theory.specs.Place.{Record}
-use Rattle.register.specs.Area.{current, r-start, r-end, phase}
-use Rattle.register.specs.Area.{last, finished, writer-phase, last-slot}
+use Rattle.register.specs.Area.{current, r-start, r-end, phase, last, finished, writer-phase, last-slot}
 use Rattle.register.specs.Area.{in-hand, writes-ended, memory}
+use Rattle.register.specs.Shape.{Shape}
 use Rattle.register.specs.Conditions.{InRange, T-of, word, AnArea, Undamaged}
 use Rattle.register.specs.Calls.{made, read-begun, write-begun, stepped, is-own}
 
@@ -33,11 +33,11 @@ pub data Given : List Row → ℕ → Type 1 where
 
 -- ---- making: 9, 10, 4
 
-abbrev pub make-rows : ℕ → ℕ → ℕ → Record → List ℕ → List Row
-make-rows form n c v a =
-    9 if ((form ≢ 1) ⊎ (¬ InRange n c))
-    ∷ 10 if (length a ≢ T-of n c)
-    ∷ 4 if (c < length v)
+abbrev pub make-rows : Shape → Record → List ℕ → List Row
+make-rows k v a =
+    9 if ((k .form ≢ 1) ⊎ (¬ InRange k))
+    ∷ 10 if (length a ≢ T-of k)
+    ∷ 4 if (k .c < length v)
     ∷ []
 
 module _ (a : List ℕ) where
@@ -112,8 +112,8 @@ module _ (a : List ℕ) where
 -- ---- the promise
 
 pub record Numbers : Type 1 where
-  pub making : (form n c : ℕ) (v : Record) (a : List ℕ) (k : ℕ)
-      → (made form n c v a .number ≡ k) ↔ Given (make-rows form n c v a) k
+  pub making : (k : Shape) (v : Record) (a : List ℕ) (i : ℕ)
+      → (made k v a .number ≡ i) ↔ Given (make-rows k v a) i
   pub reads : (a : List ℕ) (r k : ℕ) → (read-begun a r .number ≡ k) ↔ Given (read-rows a r) k
   pub writes : (a : List ℕ) (v : Record) (k : ℕ) → (write-begun a v .number ≡ k) ↔ Given (write-rows a v) k
   pub steps : (a : List ℕ) (p k : ℕ) → (stepped a p .number ≡ k) ↔ Given (step-rows a p) k

@@ -6,9 +6,10 @@ use lib.Dec.{eqb, ltb, leb}
 use lib.ListN.{length, getD}
 use Rattle.theory.specs.Place.{Record, Memory, Store, _≔_, copied}
 use Rattle.register.specs.Area.{current, index, counter, r-start, r-end, size, slot-write-number, contents}
-use Rattle.register.specs.Area.{phase, last, pos, len, desk-write-number, finished, read-record}
-use Rattle.register.specs.Area.{writer-phase, last-slot, in-hand, writer-pos, writer-len, old-word}
-use Rattle.register.specs.Area.{writes-ended, write-record, limit, most-writes}
+use Rattle.register.specs.Area.{phase, last, pos, len, desk-write-number, finished, read-record, writer-phase}
+use Rattle.register.specs.Area.{last-slot, in-hand, writer-pos, writer-len, old-word, writes-ended}
+use Rattle.register.specs.Area.{write-record, most-writes}
+use Rattle.register.specs.Shape.{Shape, limit}
 
 -- what a call on an undamaged area does: it refuses by a number, or it makes stores and says if an operation ended
 pub data Plan : Type 0 where
@@ -118,19 +119,19 @@ freezes m =
     r-start (index (m old-word)) ≔ counter (m old-word) ∷ last-slot ≔ m in-hand
     ∷ writes-ended ≔ suc (m writes-ended) ∷ writer-phase ≔ 0 ∷ []
 
--- ---- the plans, with n readers
+-- ---- the plans, on an area of a shape
 
-module _ (n : ℕ) (m : Memory) where
+module _ (k : Shape) (m : Memory) where
   -- a begin of reader r
   abbrev pub read-begins : ℕ → Plan
-  read-begins r = unless refuse (ltb r n else 3 ∷ eqb (m (phase r)) 0 else 5 ∷ []) (accept (sets-phase r 1) false)
+  read-begins r = unless refuse (ltb r (k .n) else 3 ∷ eqb (m (phase r)) 0 else 5 ∷ []) (accept (sets-phase r 1) false)
 
-  -- a begin of the writer with a record, where records have at most c words. A word holds no more than 2^64 − 1, so
-  -- that writes ended "is" 2^64 − 1 where it is not below it
-  abbrev pub write-begins : ℕ → Record → Plan
-  write-begins c v =
+  -- a begin of the writer with a record. A word holds no more than 2^64 − 1, so that writes ended "is" 2^64 − 1 where
+  -- it is not below it
+  abbrev pub write-begins : Record → Plan
+  write-begins v =
       unless refuse
-      (leb (length v) c else 4 ∷ eqb (m writer-phase) 0 else 5 ∷ ltb (m writes-ended) most-writes else 7 ∷ [])
+      (leb (length v) (k .c) else 4 ∷ eqb (m writer-phase) 0 else 5 ∷ ltb (m writes-ended) most-writes else 7 ∷ [])
       (accept (begins-write v) false)
 
   -- reader r in phase 1 to 5
@@ -138,10 +139,10 @@ module _ (n : ℕ) (m : Memory) where
   reader-1 r = accept (compares m r) false
 
   abbrev pub reader-2 : ℕ → Plan
-  reader-2 r = unless refuse (ltb (m (r-end (m (last r)))) (limit n) else 2 ∷ []) (accept (unbinds m r) false)
+  reader-2 r = unless refuse (ltb (m (r-end (m (last r)))) (limit k) else 2 ∷ []) (accept (unbinds m r) false)
 
   abbrev pub reader-3 : ℕ → Plan
-  reader-3 r = unless refuse (ltb (counter (m current)) (limit n) else 2 ∷ []) (accept (binds m r) false)
+  reader-3 r = unless refuse (ltb (counter (m current)) (limit k) else 2 ∷ []) (accept (binds m r) false)
 
   abbrev pub reader-4 : ℕ → Plan
   reader-4 r =
@@ -161,7 +162,7 @@ module _ (n : ℕ) (m : Memory) where
   -- the writer in phase 1
   abbrev pub looks : Plan
   looks =
-      cond (free m) (accept (picks m) false) (cond (eqb (m in-hand) (suc n)) (refuse 8) (accept (passes m) false))
+      cond (free m) (accept (picks m) false) (cond (eqb (m in-hand) (suc (k .n))) (refuse 8) (accept (passes m) false))
 
   -- one step of the writer
   unfoldable pub writer-step : Plan
@@ -179,7 +180,7 @@ module _ (n : ℕ) (m : Memory) where
 
   -- processes 0 to N − 1 are the readers, process N is the writer
   abbrev pub process-step : ℕ → Plan
-  process-step p = cond (ltb p n) (reader-step p) (cond (eqb p n) writer-step (refuse 3))
+  process-step p = cond (ltb p (k .n)) (reader-step p) (cond (eqb p (k .n)) writer-step (refuse 3))
 
 -- ---- moves
 
@@ -190,12 +191,18 @@ pub data Move : Type 0 where
   step : ℕ → Move
 
 -- the process that moves
-abbrev pub mover : ℕ → Move → ℕ
-mover n (read r) = r
-mover n (write v) = n
-mover n (step p) = p
+abbrev pub mover : Shape → Move → ℕ
+mover k (read r) = r
+mover k (write v) = k .n
+mover k (step p) = p
 
-abbrev pub plan : ℕ → ℕ → Memory → Move → Plan
-plan n c m (read r) = read-begins n m r
-plan n c m (write v) = write-begins n m c v
-plan n c m (step p) = process-step n m p
+abbrev pub plan : Shape → Memory → Move → Plan
+plan k m (read r) = read-begins k m r
+plan k m (write v) = write-begins k m v
+plan k m (step p) = process-step k m p
+
+-- whether areas of a shape have a call; those of every known form have all
+abbrev pub has-call : Shape → Move → Bool
+has-call k (read r) = true
+has-call k (write v) = true
+has-call k (step p) = true

@@ -7,7 +7,8 @@ use Prim.Native.Nat.{ℕ, _≤_, _<_}
 use lib.Dec.{eqb}
 use lib.ListN.{length, getD}
 use Rattle.theory.specs.Table.{total}
-use Rattle.register.specs.Area.{form1, known-form, in-range, readers, capacity, is-area}
+use Rattle.register.specs.Area.{form1, readers, capacity, is-area}
+use Rattle.register.specs.Shape.{known-form, in-range}
 use Rattle.theory.specs.Lists.{all}
 use Rattle.register.specs.Area.{memory-tests, undamaged}
 use Rattle.register.proofs.Facts.{area-facts}

@@ -10,8 +10,8 @@ use lib.ListN.{length}
 use Rattle.theory.specs.Place.{Record}
 use Rattle.theory.specs.History.{Read, Write}
 use Rattle.theory.specs.Line.{Operation, reading, writing, Reordered, empty, keep, swap, twice}
-use Rattle.theory.proofs.Placed.{Placed, at-start, at-newest, further-back, newest}
-use Rattle.theory.proofs.Placed.{Apart, no-writes, one-write, AllPlaced, no-reads, one-read}
+use Rattle.theory.proofs.Placed.{Placed, at-start, at-newest, further-back, newest, Apart, no-writes}
+use Rattle.theory.proofs.Placed.{one-write, AllPlaced, no-reads, one-read}
 
 -- A line of the given writes and of reads that ended by t, with no moment in it later than `latest`. Each read
 -- shows the record of the nearest write ahead of it; the moment of a write is its publication

@@ -8,9 +8,9 @@ use native.Mathlib.Omega.{arith}
 use lib.ListN.{length}
 use Rattle.theory.specs.Place.{Record}
 use Rattle.theory.specs.History.{Write, History}
-use Rattle.theory.specs.Line.{Operation, start, reading, writing, began, ended}
-use Rattle.theory.specs.Line.{Reordered, empty, keep, swap, twice, At, here, behind}
-use Rattle.theory.specs.Line.{Gives, done, from-start, to-read, from-write, writes-of, Line}
+use Rattle.theory.specs.Line.{Operation, start, reading, writing, began, ended, Reordered, empty, keep, swap}
+use Rattle.theory.specs.Line.{twice, At, here, behind, Gives, done, from-start, to-read, from-write}
+use Rattle.theory.specs.Line.{writes-of, Line}
 use Rattle.theory.proofs.Placed.{newest, Sound}
 use Rattle.theory.proofs.Inserting.{Lined, nothing, with-read, with-write, same, all-put-in}
 

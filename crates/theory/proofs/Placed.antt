@@ -20,9 +20,8 @@ use lib.Dec.{eqb}
 use lib.ListN.{length}
 use Rattle.theory.specs.Lists.{Each, none, also}
 use Rattle.theory.specs.Place.{Record}
-use Rattle.theory.specs.History.{Deed, read-began, write-began, went-on, looked, published}
-use Rattle.theory.specs.History.{read-ended, write-ended, Read, Write, History}
-use Rattle.theory.specs.History.{closed, the-write, noted, nothing-yet}
+use Rattle.theory.specs.History.{Deed, read-began, write-began, went-on, looked, published, read-ended}
+use Rattle.theory.specs.History.{write-ended, Read, Write, History, closed, the-write, noted, nothing-yet}
 use Rattle.theory.proofs.Tests.{if-true}
 
 -- ---- placed, apart and sound; lists of reads and of writes are newest first

@@ -1,6 +1,7 @@
 -- One theory of layouts for any table of parts: addresses of different places differ, and stores to a list of words
 -- are stores to its memory.
 --     rows-apart, row-within              rows of one width
+--     single-words, single-offset         fields of one word each
 --     Has, has-it, AllHas                 a place that the area has; stores to such places alone
 --     base-grows, address-within          parts follow one another, and a place that the area has stands inside it
 --     addresses-apart                     two places at one address are one
@@ -17,15 +18,14 @@ use Prim.Native.Nat.{ℕ, zero, suc, _+_, _*_, _≤_, _<_}
 use native.Mathlib.Nat.{mul-le-mul-right}
 use native.Mathlib.Decide.{ℕ-discrete, decLt}
 use native.Mathlib.Omega.{arith}
-use lib.Dec.{T, eqb, ltb, ltb→lt, eqb→eq}
+use lib.Dec.{T, ltb, ltb→lt}
 use lib.ListN.{length, getD, set, length-set, take}
 use lib.Seq.{getD-set-same, getD-set-other, drop-cons}
-use borrow.Author.Tests.{eq-eqb, ne-eqb, lt-ltb}
+use borrow.Author.Tests.{lt-ltb}
 use Rattle.theory.specs.Place.{Place, changed, Store, apply}
-use Rattle.theory.specs.Table.{Table, width, base, total, address, has, view, store}
-use Rattle.theory.specs.Lists.{words-from}
-use Rattle.theory.specs.Lists.{Each, also}
+use Rattle.theory.specs.Table.{Table, singles, words, offset, width, base, total, address, has, view, store}
 use Rattle.theory.specs.Table.{Untouched}
+use Rattle.theory.specs.Lists.{words-from, Each, also}
 use Rattle.theory.proofs.Tests.{both, true-passes}
 use Rattle.theory.proofs.Places.{place-equal, place-discrete, changed-here, changed-elsewhere, row, row-same}
 
@@ -42,75 +42,74 @@ rows-apart w r s k l h g e = go (decLt r s) (decLt s r)
 pub row-within : (w n r k : ℕ) → k < w → r < n → r * w + k < n * w
 row-within w n r k h l = omega (arith, mul-le-mul-right w l)
 
--- one row: the last field has many words, the others one
-fields-apart : (t f g i j : ℕ) → f ≤ t → g ≤ t → (f ≢ t → i ≡ 0) → (g ≢ t → j ≡ 0)
-    → f + i ≡ g + j → (f ≡ g) × (i ≡ j)
-fields-apart t f g i j h k s u e = go (ℕ-discrete f t) (ℕ-discrete g t)
-  where
-    go : Dec (f ≡ t) → Dec (g ≡ t) → (f ≡ g) × (i ≡ j)
-    go (yes x) (yes y) = omega arith
-    go (yes x) (no y) = absurd (omega (arith, u y))
-    go (no x) (yes y) = absurd (omega (arith, s x))
-    go (no x) (no y) = omega (arith, s x, u y)
+-- a field that has a word is one of the row's
+field-there : (l : List ℕ) (f : ℕ) {j : ℕ} → j < getD l f 0 → f < length l
+field-there [] f h = absurd (omega arith)
+field-there (w ∷ l) zero h = omega arith
+field-there (w ∷ l) (suc f) h = omega (arith, field-there l f h)
+
+-- ---- fields of one word each stand one behind another, in front of any others
+
+single-word : (j f : ℕ) (l : List ℕ) → f < j → getD (singles j l) f 0 ≡ 1
+single-word zero f l h = absurd (omega arith)
+single-word (suc j) zero l h = refl
+single-word (suc j) (suc f) l h = single-word j f l (omega arith)
 
 module _ (t : Table) where
+  pub single-words : (g j : ℕ) (l : List ℕ) → t .fields g ≡ singles j l → (f : ℕ) → f < j → words t g f ≡ 1
+  single-words g j l e f h = ap (λ k. getD k f 0) e ∙ single-word j f l h
+
+  pub single-offset : (g j : ℕ) (l : List ℕ) → t .fields g ≡ singles j l → (f : ℕ) → f ≤ j → offset t g f ≡ f
+  single-offset g j l e zero h = refl
+  single-offset g j l e (suc f) h =
+      omega (arith, single-offset g j l e f (omega arith), single-words g j l e f (omega arith))
+
+  -- ---- fields of a row
+
+  offset-grows : (g f k : ℕ) → f ≤ k → offset t g f ≤ offset t g k
+  offset-grows g f zero l = let e : f ≡ 0 = omega arith in rw e (omega arith)
+  offset-grows g f (suc k) l = go (λ x. offset-grows g f k x) (ℕ-discrete f (suc k))
+    where
+      go : (f ≤ k → offset t g f ≤ offset t g k) → Dec (f ≡ suc k) → offset t g f ≤ offset t g k + words t g k
+      go rest (yes e) = rw e (omega arith)
+      go rest (no d) = omega (arith, rest (omega arith))
+
+  -- two words of one row
+  fields-apart : (g f h i j : ℕ) → i < words t g f → j < words t g h
+      → offset t g f + i ≡ offset t g h + j → (f ≡ h) × (i ≡ j)
+  fields-apart g f h i j l k e = go (decLt f h) (decLt h f)
+    where
+      go : Dec (f < h) → Dec (h < f) → (f ≡ h) × (i ≡ j)
+      go (yes x) d = absurd (omega (arith, offset-grows g (suc f) h x))
+      go (no d) (yes x) = absurd (omega (arith, offset-grows g (suc h) f x))
+      go (no d) (no x) = let y : f ≡ h = omega arith in (y, omega (arith, ap (offset t g) y))
+
   -- ---- places that the area has
 
   pub record Has (p : Place) : Type 0 where
     pub part : p .part < t .parts
     pub row : p .row < t .rows (p .part)
-    pub field : p .field ≤ t .singles (p .part)
-    pub many : p .field ≡ t .singles (p .part) → p .column < t .last-words (p .part)
-    pub single : p .field ≢ t .singles (p .part) → p .column ≡ 0
+    pub column : p .column < words t (p .part) (p .field)
 
   has-of : (p : Place) → T (has t p) → Has p
   has-of p u =
-      let (v, w) = both (ltb (p .part) (t .parts) && ltb (p .row) (t .rows (p .part))) _ u in
+      let (v, z) = both (ltb (p .part) (t .parts) && ltb (p .row) (t .rows (p .part))) _ u in
       let (x, y) = both (ltb (p .part) (t .parts)) _ v in
-      go (ltb→lt _ _ x) (ltb→lt _ _ y) w (ℕ-discrete (p .field) (t .singles (p .part)))
-    where
-      Last : Bool → Type 0
-      Last b = T
-          (cond b (ltb (p .column) (t .last-words (p .part)))
-          (ltb (p .field) (t .singles (p .part)) && eqb (p .column) 0))
-
-      go : p .part < t .parts → p .row < t .rows (p .part) → Last (eqb (p .field) (t .singles (p .part)))
-          → Dec (p .field ≡ t .singles (p .part)) → Has p
-      go x y w (yes e) =
-          let z : T (ltb (p .column) (t .last-words (p .part))) = subst Last (eq-eqb _ _ e) w in
-          record { part = x; row = y; field = omega arith; many = λ f. ltb→lt _ _ z; single = λ d. absurd (d e) }
-      go x y w (no d) =
-          let z : T (ltb (p .field) (t .singles (p .part)) && eqb (p .column) 0) = subst Last (ne-eqb _ _ d) w in
-          let (a, b) = both (ltb (p .field) (t .singles (p .part))) _ z in
-          record {
-            part = x;
-            row = y;
-            field = omega (arith, ltb→lt (p .field) (t .singles (p .part)) a);
-            many = λ e. absurd (d e);
-            single = λ f. eqb→eq _ _ b;
-          }
+      record { part = ltb→lt _ _ x; row = ltb→lt _ _ y; column = ltb→lt _ _ z }
 
   pub has-it : (p : Place) → Has p → has t p ≡ true
-  has-it p h =
-      rw (lt-ltb _ _ (h .part), lt-ltb _ _ (h .row)) (go (ℕ-discrete (p .field) (t .singles (p .part))))
-    where
-      go : Dec (p .field ≡ t .singles (p .part))
-          → cond (eqb (p .field) (t .singles (p .part))) (ltb (p .column) (t .last-words (p .part)))
-          (ltb (p .field) (t .singles (p .part)) && eqb (p .column) 0)
-          ≡ true
-      go (yes e) = rw (eq-eqb _ _ e) (lt-ltb _ _ (h .many e))
-      go (no d) =
-          rw (ne-eqb _ _ d, lt-ltb (p .field) (t .singles (p .part)) (omega (arith, h .field)))
-          (eq-eqb (p .column) 0 (h .single d))
+  has-it p h = rw (lt-ltb _ _ (h .part), lt-ltb _ _ (h .row), lt-ltb _ _ (h .column))
 
   -- ---- addresses
 
-  inside : (p : Place) → Has p → p .field + p .column < width t (p .part)
-  inside p h = go (ℕ-discrete (p .field) (t .singles (p .part)))
-    where
-      go : Dec (p .field ≡ t .singles (p .part)) → p .field + p .column < width t (p .part)
-      go (yes e) = omega (arith, h .many e)
-      go (no d) = omega (arith, h .single d, h .field)
+  -- where a place stands in its row
+  abbrev in-row : ℕ → Place → ℕ
+  in-row g p = offset t g (p .field) + p .column
+
+  inside : (p : Place) → Has p → in-row (p .part) p < width t (p .part)
+  inside p h =
+      let there = field-there (t .fields (p .part)) (p .field) (h .column) in
+      omega (arith, h .column, offset-grows (p .part) (suc (p .field)) (length (t .fields (p .part))) there)
 
   pub base-grows : (g k : ℕ) → g ≤ k → base t g ≤ base t k
   base-grows g zero l = let e : g ≡ 0 = omega arith in rw e (omega arith)
@@ -122,7 +121,7 @@ module _ (t : Table) where
 
   below-next : (p : Place) → Has p → address t p < base t (suc (p .part))
   below-next p h =
-      let k = p .field + p .column in
+      let k = in-row (p .part) p in
       omega (arith, row-within (width t (p .part)) (t .rows (p .part)) (p .row) k (inside p h) (h .row))
 
   pub address-within : (p : Place) → Has p → address t p < total t
@@ -136,24 +135,23 @@ module _ (t : Table) where
       go (no d) (yes l) = absurd (omega (arith, below-next q k, base-grows (suc (q .part)) (p .part) l))
       go (no d) (no f) =
           row
-          (rows-apart (width t (p .part)) (p .row) (q .row) (p .field + p .column) (q .field + q .column) (inside p h)
+          (rows-apart (width t (p .part)) (p .row) (q .row) (in-row (p .part) p) (in-row (p .part) q) (inside p h)
           (rw part (inside q k)) level)
         where
           part : p .part ≡ q .part
           part = omega arith
 
           at-part : ℕ → Type 0
-          at-part g = address t p ≡ base t g + (q .row * width t g + (q .field + q .column))
+          at-part g = address t p ≡ base t g + (q .row * width t g + in-row g q)
 
-          level : p .row * width t (p .part) + (p .field + p .column)
-              ≡ q .row * width t (p .part) + (q .field + q .column)
+          level : p .row * width t (p .part) + in-row (p .part) p ≡ q .row * width t (p .part) + in-row (p .part) q
           level = omega (arith, subst at-part (sym part) e)
 
-          row : (p .row ≡ q .row) × (p .field + p .column ≡ q .field + q .column) → p ≡ q
+          row : (p .row ≡ q .row) × (in-row (p .part) p ≡ in-row (p .part) q) → p ≡ q
           row (r, x) =
               let (f, c) =
-              fields-apart (t .singles (p .part)) (p .field) (q .field) (p .column) (q .column) (h .field)
-              (rw part (k .field)) (h .single) (rw part (k .single)) x in
+              fields-apart (p .part) (p .field) (q .field) (p .column) (q .column) (h .column)
+              (rw part (k .column)) x in
               place-equal p q part f r c
 
   -- ---- words and memories

@@ -22,8 +22,7 @@ use native.Mathlib.Omega.{arith}
 use lib.Dec.{T, T-not, eqb, leb, ltb, eqb→eq, eqb-refl, leb→le, le→leb, ltb→lt, nltb→le}
 use lib.ListN.{length, getD}
 use borrow.Author.Tests.{eq-eqb, ne-eqb}
-use Rattle.theory.specs.Lists.{all, every}
-use Rattle.theory.specs.Lists.{Each, none, also}
+use Rattle.theory.specs.Lists.{all, every, Each, none, also}
 
 -- ---- a test as a fact
 

@@ -4,24 +4,36 @@ use mathlib.Core.Bool.{Bool, cond, _&&_}
 use mathlib.Core.List.{List, [], _∷_}
 use mathlib.Core.Logic.{_≢_}
 use Prim.Native.Nat.{ℕ, zero, suc, _+_, _*_}
-use lib.Dec.{eqb, ltb}
-use lib.ListN.{getD, set}
+use lib.Dec.{ltb}
+use lib.ListN.{length, getD, set}
 use Rattle.theory.specs.Lists.{Each}
 use Rattle.theory.specs.Place.{Place, Memory, Store}
 
--- An area is made of parts, one behind another; a part of rows; a row of fields. Each field of a row is one word, but
--- the last, which has as many as the table says. Of each part: its rows, the single words of a row before the last
--- field, and the words of the last field.
+-- An area is made of parts, one behind another; a part of rows; a row of fields; a field of words, also of none. Of
+-- each part: its rows, and how many words each field of a row has, field by field.
 pub record Table : Type 0 where
   pub parts : ℕ
   pub rows : ℕ → ℕ
-  pub singles : ℕ → ℕ
-  pub last-words : ℕ → ℕ
+  pub fields : ℕ → List ℕ
+
+-- j fields of one word each, in front of others
+abbrev pub singles : ℕ → List ℕ → List ℕ
+singles zero l = l
+singles (suc j) l = 1 ∷ singles j l
 
 module _ (t : Table) where
+  -- the words of field f of part g; a field that a row lacks has none
+  abbrev pub words : ℕ → ℕ → ℕ
+  words g f = getD (t .fields g) f 0
+
+  -- where field f stands in a row of part g
+  abbrev pub offset : ℕ → ℕ → ℕ
+  offset g zero = 0
+  offset g (suc f) = offset g f + words g f
+
   -- the words in a row of a part
   abbrev pub width : ℕ → ℕ
-  width g = t .singles g + t .last-words g
+  width g = offset g (length (t .fields g))
 
   -- where a part begins
   abbrev pub base : ℕ → ℕ
@@ -33,14 +45,12 @@ module _ (t : Table) where
   total = base (t .parts)
 
   abbrev pub address : Place → ℕ
-  address p = base (p .part) + (p .row * width (p .part) + (p .field + p .column))
+  address p = base (p .part) + (p .row * width (p .part) + (offset (p .part) (p .field) + p .column))
 
   -- whether an area has such a place
   abbrev pub has : Place → Bool
   has p =
-      ltb (p .part) (t .parts) && ltb (p .row) (t .rows (p .part))
-      && cond (eqb (p .field) (t .singles (p .part))) (ltb (p .column) (t .last-words (p .part)))
-      (ltb (p .field) (t .singles (p .part)) && eqb (p .column) 0)
+      ltb (p .part) (t .parts) && ltb (p .row) (t .rows (p .part)) && ltb (p .column) (words (p .part) (p .field))
 
   -- the memory that a list of words is; a place that the area lacks holds 0
   abbrev pub view : List ℕ → Memory
