@@ -4,52 +4,60 @@ use mathlib.Core.List.{List}
 use Prim.Native.Nat.{ℕ, _+_, _*_, _≤_}
 use lib.ListN.{length}
 use Rattle.theory.specs.Place.{Memory, Store}
-use Rattle.theory.specs.Table.{Table, base, width, total, view, store}
-use Rattle.register.specs.Area.{form1}
-use Rattle.register.specs.Shape.{slots-at, desks-at, writer-at}
+use Rattle.theory.specs.Table.{Table, offset, base, width, total, view, store}
+use Rattle.register.specs.Shape.{Shape, shape, limit, table, slots-at, desks-at, writer-at}
 use Rattle.area.specs.declared.Layout.{Layout}
 
--- where word f of row r of part g stands: the address of field f, or of a column of the last field
+-- where word i of row r of part g stands
 abbrev pub word-at : Table → ℕ → ℕ → ℕ → ℕ
-word-at t g r f = base t g + (r * width t g + f)
+word-at t g r i = base t g + (r * width t g + i)
 
--- word f of slot s, of the desk of reader r, of the writer's desk
-abbrev pub slot-word : ℕ → ℕ → ℕ → ℕ → ℕ
-slot-word n c s f = word-at (form1 n c) 1 s f
+module _ (k : Shape) where
+  -- word i of slot s, of the desk of reader r, of the writer's desk
+  abbrev pub slot-word : ℕ → ℕ → ℕ
+  slot-word s i = word-at (table k) 1 s i
 
-abbrev pub desk-word : ℕ → ℕ → ℕ → ℕ → ℕ
-desk-word n c r f = word-at (form1 n c) 2 r f
+  abbrev pub desk-word : ℕ → ℕ → ℕ
+  desk-word r i = word-at (table k) 2 r i
 
-abbrev pub writer-word : ℕ → ℕ → ℕ → ℕ
-writer-word n c f = word-at (form1 n c) 3 0 f
+  abbrev pub writer-word : ℕ → ℕ
+  writer-word i = word-at (table k) 3 0 i
 
--- the layout for n readers and records of at most c words
-abbrev pub layout-of : ℕ → ℕ → Layout
-layout-of n c =
-    record {
-      n = n;
-      c = c;
-      slots = slots-at n c;
-      desks = desks-at n c;
-      writer = writer-at n c;
-      total = total (form1 n c);
-    }
+  -- the layout of a shape
+  abbrev pub layout-of : Layout
+  layout-of =
+      record {
+        form = k .form;
+        n = k .n;
+        c = k .c;
+        limit = limit k;
+        slots = slots-at k;
+        desks = desks-at k;
+        desk = width (table k) 2;
+        words = offset (table k) 2 6;
+        writer = writer-at k;
+        total = total (table k);
+      }
 
--- a layout that says what its own n and c give
+-- the shape that a layout says
+abbrev pub its-shape : Layout → Shape
+its-shape p = shape (p .form) (p .n) (p .c)
+
+-- a layout that is that of its own shape
 pub record Laid (p : Layout) : Type 0 where
   pub few-readers : p .n ≤ 64
   pub few-words : p .c ≤ 256
-  pub exact : p ≡ layout-of (p .n) (p .c)
+  pub exact : p ≡ layout-of (its-shape p)
 
 -- words that a layout fits
 pub record Sized (p : Layout) (a : List ℕ) : Type 0 where
   pub laid : Laid p
-  pub exact : length a ≡ total (form1 (p .n) (p .c))
+  pub exact : length a ≡ total (table (its-shape p))
 
 -- the memory that words are by a layout
 abbrev pub memory-of : Layout → List ℕ → Memory
-memory-of p a = view (form1 (p .n) (p .c)) a
+memory-of p a = view (table (its-shape p)) a
 
 -- the words after some stores, by a layout
 abbrev pub words-after : Layout → List ℕ → List Store → List ℕ
-words-after p a l = store (form1 (p .n) (p .c)) a l
+words-after p a l = store (table (its-shape p)) a l

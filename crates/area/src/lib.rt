@@ -2,20 +2,26 @@
 ghost use mathlib.Core.Path.{_≡_};
 ghost use Prim.Native.Nat.{_+_, _≤_, _<_};
 ghost use Rattle.theory.specs.Table.{total};
-ghost use Rattle.register.specs.Area.{form1};
-ghost use Rattle.area.specs.Words.{layout-of, Laid, slot-word, desk-word, writer-word};
+ghost use Rattle.register.specs.Shape.{shape, table};
+ghost use Rattle.area.specs.Words.{its-shape, layout-of, Laid, slot-word, desk-word, writer-word};
 
 pub mod fields;
 pub mod header;
 pub mod records;
 pub mod stores;
 
-// Where the parts of an area for n readers and records of at most c words begin, and how many words it has.
+// The shape of an area, for n readers and records of at most c words, and all that depends on it: the limit of r_start,
+// r_end and the counters; where its parts begin; the words of a reader's desk, and where its record's words begin in it;
+// the words of all.
 pub struct Layout {
+    pub form: u64,
     pub n: usize,
     pub c: usize,
+    pub limit: u64,
     pub slots: usize,
     pub desks: usize,
+    pub desk: usize,
+    pub words: usize,
     pub writer: usize,
     pub total: usize,
 }
@@ -83,18 +89,23 @@ impl Layout {
 
     pub const WRITES_ENDED: usize = 6;
 
-    // The layout for n readers and records of at most c words.
-    pub fn new(n: usize, c: usize) -> Self
+    // The layout of a form for n readers and records of at most c words.
+    pub fn new(form: u64, n: usize, c: usize) -> Self
         requires { ⌜ (n ≤ 64) × (c ≤ 256) ⌝ }
-        ensures { λ r. ⌜ r ≡ layout-of n c ⌝ }
+        ensures { λ r. ⌜ r ≡ layout-of (shape form n c) ⌝ }
     {
         let desks = Layout::HEADER + (n + 2) * (Layout::SLOT + c);
-        let writer = desks + n * (Layout::DESK + c);
+        let desk = Layout::DESK + c;
+        let writer = desks + n * desk;
         Layout {
+            form,
             n,
             c,
+            limit: n as u64,
             slots: Layout::HEADER,
             desks,
+            desk,
+            words: Layout::DESK,
             writer,
             total: writer + (Layout::WRITER + c),
         }
@@ -103,23 +114,23 @@ impl Layout {
     // Where word f of slot s stands.
     pub fn slot_word(self, s: usize, f: usize) -> usize
         requires { ⌜ Laid self × (s < self .n + 2) × (f < 4 + self .c) ⌝ }
-        ensures { λ i. ⌜ (i ≡ slot-word (self .n) (self .c) s f) × (i < total (form1 (self .n) (self .c))) ⌝ }
+        ensures { λ i. ⌜ (i ≡ slot-word (its-shape self) s f) × (i < total (table (its-shape self))) ⌝ }
     {
         self.slots + (s * (Layout::SLOT + self.c) + f)
     }
 
     // Where word f of the desk of reader r stands.
     pub fn desk_word(self, r: usize, f: usize) -> usize
-        requires { ⌜ Laid self × (r < self .n) × (f < 6 + self .c) ⌝ }
-        ensures { λ i. ⌜ (i ≡ desk-word (self .n) (self .c) r f) × (i < total (form1 (self .n) (self .c))) ⌝ }
+        requires { ⌜ Laid self × (r < self .n) × (f < self .desk) ⌝ }
+        ensures { λ i. ⌜ (i ≡ desk-word (its-shape self) r f) × (i < total (table (its-shape self))) ⌝ }
     {
-        self.desks + (r * (Layout::DESK + self.c) + f)
+        self.desks + (r * self.desk + f)
     }
 
     // Where word f of the writer's desk stands.
     pub fn writer_word(self, f: usize) -> usize
         requires { ⌜ Laid self × (f < 7 + self .c) ⌝ }
-        ensures { λ i. ⌜ (i ≡ writer-word (self .n) (self .c) f) × (i < total (form1 (self .n) (self .c))) ⌝ }
+        ensures { λ i. ⌜ (i ≡ writer-word (its-shape self) f) × (i < total (table (its-shape self))) ⌝ }
     {
         self.writer + f
     }

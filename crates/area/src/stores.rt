@@ -4,8 +4,8 @@ ghost use mathlib.Core.Path.{_≡_};
 ghost use mathlib.Core.List.{_∷_, []};
 ghost use Prim.Native.Nat.{_+_, _<_};
 ghost use Rattle.theory.specs.Place.{_≔_};
-ghost use Rattle.register.specs.Area.{current, slot-field, contents, desk-field, read-record};
-ghost use Rattle.register.specs.Area.{writer-field, write-record};
+ghost use Rattle.register.specs.Area.{current, slot-field, contents, desk-field, read-record, writer-field};
+ghost use Rattle.register.specs.Area.{write-record};
 ghost use Rattle.area.specs.Words.{Sized, words-after};
 
 // The current word becomes v.
@@ -48,7 +48,7 @@ pub fn set_read_record(area: &mut [u64], p: Layout, r: usize, j: usize, v: u64)
     requires { ⌜ Sized p (now area) × (r < p .n) × (j < p .c) ⌝ }
     ensures { λ _. ⌜ now (area .exit) ≡ words-after p (now (area .entry)) (read-record r j ≔ v ∷ []) ⌝ }
 {
-    let i = p.desk_word(r, Layout::DESK + j);
+    let i = p.desk_word(r, p.words + j);
     area[i] = v;
 }
 

@@ -23,7 +23,7 @@ use lib.ListN.{length, getD, set, length-set, take}
 use lib.Seq.{getD-set-same, getD-set-other, drop-cons}
 use borrow.Author.Tests.{lt-ltb}
 use Rattle.theory.specs.Place.{Place, changed, Store, apply}
-use Rattle.theory.specs.Table.{Table, singles, words, offset, width, base, total, address, has, view, store}
+use Rattle.theory.specs.Table.{Table, singles, field-at, words, offset, width, base, total, address, has, view, store}
 use Rattle.theory.specs.Table.{Untouched}
 use Rattle.theory.specs.Lists.{words-from, Each, also}
 use Rattle.theory.proofs.Tests.{both, true-passes}
@@ -48,7 +48,27 @@ field-there [] f h = absurd (omega arith)
 field-there (w ∷ l) zero h = omega arith
 field-there (w ∷ l) (suc f) h = omega (arith, field-there l f h)
 
--- ---- fields of one word each stand one behind another, in front of any others
+-- fields stand one behind another
+next-field : (i : ℕ) (l : List ℕ) (f : ℕ) → field-at i l f + getD l f 0 ≡ field-at i l (suc f)
+next-field i [] zero = omega arith
+next-field i [] (suc f) = omega arith
+next-field i (w ∷ l) zero = refl
+next-field i (w ∷ l) (suc f) = next-field (i + w) l f
+
+fields-grow : (i : ℕ) (l : List ℕ) (f h : ℕ) → f ≤ h → field-at i l f ≤ field-at i l h
+fields-grow i l f zero k = let e : f ≡ 0 = omega arith in rw e (omega arith)
+fields-grow i l f (suc h) k = go (fields-grow i l f h) (ℕ-discrete f (suc h))
+  where
+    go : (f ≤ h → field-at i l f ≤ field-at i l h) → Dec (f ≡ suc h) → field-at i l f ≤ field-at i l (suc h)
+    go rest (yes e) = rw e (omega arith)
+    go rest (no d) = omega (arith, rest (omega arith), next-field i l h)
+
+-- ---- fields of one word each, in front of any others
+
+single-at : (i j : ℕ) (l : List ℕ) (f : ℕ) → f ≤ j → field-at i (singles j l) f ≡ i + f
+single-at i j l zero h = omega arith
+single-at i zero l (suc f) h = absurd (omega arith)
+single-at i (suc j) l (suc f) h = omega (arith, single-at (i + 1) j l f (omega arith))
 
 single-word : (j f : ℕ) (l : List ℕ) → f < j → getD (singles j l) f 0 ≡ 1
 single-word zero f l h = absurd (omega arith)
@@ -60,19 +80,14 @@ module _ (t : Table) where
   single-words g j l e f h = ap (λ k. getD k f 0) e ∙ single-word j f l h
 
   pub single-offset : (g j : ℕ) (l : List ℕ) → t .fields g ≡ singles j l → (f : ℕ) → f ≤ j → offset t g f ≡ f
-  single-offset g j l e zero h = refl
-  single-offset g j l e (suc f) h =
-      omega (arith, single-offset g j l e f (omega arith), single-words g j l e f (omega arith))
+  single-offset g j l e f h = omega (arith, ap (λ k. field-at 0 k f) e, single-at 0 j l f h)
 
   -- ---- fields of a row
 
-  offset-grows : (g f k : ℕ) → f ≤ k → offset t g f ≤ offset t g k
-  offset-grows g f zero l = let e : f ≡ 0 = omega arith in rw e (omega arith)
-  offset-grows g f (suc k) l = go (λ x. offset-grows g f k x) (ℕ-discrete f (suc k))
-    where
-      go : (f ≤ k → offset t g f ≤ offset t g k) → Dec (f ≡ suc k) → offset t g f ≤ offset t g k + words t g k
-      go rest (yes e) = rw e (omega arith)
-      go rest (no d) = omega (arith, rest (omega arith))
+  -- a field ends by where a later one stands
+  offset-grows : (g f k : ℕ) → f < k → offset t g f + words t g f ≤ offset t g k
+  offset-grows g f k l =
+      omega (arith, next-field 0 (t .fields g) f, fields-grow 0 (t .fields g) (suc f) k l)
 
   -- two words of one row
   fields-apart : (g f h i j : ℕ) → i < words t g f → j < words t g h
@@ -80,8 +95,8 @@ module _ (t : Table) where
   fields-apart g f h i j l k e = go (decLt f h) (decLt h f)
     where
       go : Dec (f < h) → Dec (h < f) → (f ≡ h) × (i ≡ j)
-      go (yes x) d = absurd (omega (arith, offset-grows g (suc f) h x))
-      go (no d) (yes x) = absurd (omega (arith, offset-grows g (suc h) f x))
+      go (yes x) d = absurd (omega (arith, offset-grows g f h x))
+      go (no d) (yes x) = absurd (omega (arith, offset-grows g h f x))
       go (no d) (no x) = let y : f ≡ h = omega arith in (y, omega (arith, ap (offset t g) y))
 
   -- ---- places that the area has
@@ -109,7 +124,7 @@ module _ (t : Table) where
   inside : (p : Place) → Has p → in-row (p .part) p < width t (p .part)
   inside p h =
       let there = field-there (t .fields (p .part)) (p .field) (h .column) in
-      omega (arith, h .column, offset-grows (p .part) (suc (p .field)) (length (t .fields (p .part))) there)
+      omega (arith, h .column, offset-grows (p .part) (p .field) (length (t .fields (p .part))) there)
 
   pub base-grows : (g k : ℕ) → g ≤ k → base t g ≤ base t k
   base-grows g zero l = let e : g ≡ 0 = omega arith in rw e (omega arith)

@@ -21,15 +21,20 @@ abbrev pub singles : ℕ → List ℕ → List ℕ
 singles zero l = l
 singles (suc j) l = 1 ∷ singles j l
 
+-- where field f of a row stands, if its first stands at i
+abbrev pub field-at : ℕ → List ℕ → ℕ → ℕ
+field-at i l zero = i
+field-at i [] (suc f) = i
+field-at i (w ∷ l) (suc f) = field-at (i + w) l f
+
 module _ (t : Table) where
   -- the words of field f of part g; a field that a row lacks has none
   abbrev pub words : ℕ → ℕ → ℕ
   words g f = getD (t .fields g) f 0
 
-  -- where field f stands in a row of part g
+  -- where it stands in a row
   abbrev pub offset : ℕ → ℕ → ℕ
-  offset g zero = 0
-  offset g (suc f) = offset g f + words g f
+  offset g f = field-at 0 (t .fields g) f
 
   -- the words in a row of a part
   abbrev pub width : ℕ → ℕ

@@ -4,13 +4,13 @@ use Prim.Native.Nat.{_≤_}
 use native.Mathlib.Nat.{one-mul}
 use native.Mathlib.Omega.{arith}
 use Rattle.theory.specs.Table.{total}
-use Rattle.register.specs.Area.{form1}
+use Rattle.register.specs.Shape.{shape, table}
 use Rattle.area.proofs.Sizes.{total-small}
 use Rattle.area.proofs.Layout.new.Statement.{statement}
 use Rattle.area.proofs.Layout.new.Tie as tie
 
-small : (c : tie.Start) → total (form1 (c .args .n) (c .args .c)) ≤ 34199
-small c = total-small (c .args .n) (c .args .c) (c .pre .0) (c .pre .1)
+small : (c : tie.Start) → total (table (shape (c .args .form) (c .args .n) (c .args .c))) ≤ 34199
+small c = total-small (shape (c .args .form) (c .args .n) (c .args .c)) (c .pre .0) (c .pre .1)
 
 add-desks : tie.Need-add-desks
 add-desks c = search needs
@@ -24,17 +24,17 @@ mul-desks c = omega (arith, small c)
 add-desks-3 : tie.Need-add-desks-3
 add-desks-3 c = omega (arith, small c)
 
-add-writer : tie.Need-add-writer
-add-writer c = search needs
+add-desk : tie.Need-add-desk
+add-desk c = search needs
 
 mul-writer : tie.Need-mul-writer
 mul-writer c = omega (arith, small c)
 
-add-writer-2 : tie.Need-add-writer-2
-add-writer-2 c = omega (arith, small c)
+add-writer : tie.Need-add-writer
+add-writer c = omega (arith, small c)
 
-add-t6 : tie.Need-add-t6
-add-t6 c = search needs
+add-t9 : tie.Need-add-t9
+add-t9 c = search needs
 
 add-t7 : tie.Need-add-t7
 add-t7 c = omega (arith, small c)
@@ -50,9 +50,9 @@ new-spec =
     add-desks-2
     mul-desks
     add-desks-3
-    add-writer
+    add-desk
     mul-writer
-    add-writer-2
-    add-t6
+    add-writer
+    add-t9
     add-t7
     returns)

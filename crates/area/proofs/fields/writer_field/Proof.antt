@@ -1,5 +1,6 @@
 -- `fields::writer_field` meets its contract: the word read is the memory's at that place. Assumes nothing.
 use borrow.Author.Needs.{needs}
+use Rattle.area.specs.Words.{its-shape}
 use Rattle.area.proofs.Words.{writer-field-is}
 use Rattle.area.proofs.fields.writer_field.Statement.{statement}
 use Rattle.area.proofs.fields.writer_field.Tie as tie
@@ -16,7 +17,7 @@ shared-slice-read-result c = search needs
 returns : tie.Need-returns
 returns c =
     let b = c .before .before .before in
-    writer-field-is (b .args .p .n) (b .args .p .c) (b .args .area .now)
+    writer-field-is (its-shape (b .args .p)) (b .args .area .now)
     (b .args .f) (b .pre .1) (c .before .writer-word .ensures .0)
 
 pub writer-field-spec : {M : Type 1} → statement M

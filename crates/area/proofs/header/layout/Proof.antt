@@ -14,11 +14,14 @@ shared-slice-read-n c = omega (arith, facts (c .before .before) .exact)
 shared-slice-read-c : tie.Need-shared-slice-read-c
 shared-slice-read-c c = omega (arith, facts (c .before .before .before) .exact)
 
+shared-slice-read-new : tie.Need-shared-slice-read-new
+shared-slice-read-new c = omega (arith, facts (c .before .before .before .before) .exact)
+
 new-requires : tie.Need-new-requires
-new-requires c κs = let r = facts (c .before .before .before) .range in (r .few-readers, r .few-words)
+new-requires c κs = let r = facts (c .before .before .before .before) .range in (r .few-readers, r .few-words)
 
 returns : tie.Need-returns
 returns c = search needs
 
 pub layout-spec : {M : Type 1} → statement M
-layout-spec = tie.close (tie.spec shared-slice-read-n shared-slice-read-c new-requires returns)
+layout-spec = tie.close (tie.spec shared-slice-read-n shared-slice-read-c shared-slice-read-new new-requires returns)

@@ -1,6 +1,7 @@
 -- `records::contents_word` meets its contract: what is read is that word of the slot's contents. Assumes nothing.
 use borrow.Author.Needs.{needs}
 use native.Mathlib.Omega.{arith}
+use Rattle.area.specs.Words.{its-shape}
 use Rattle.area.proofs.Words.{contents-is}
 use Rattle.area.proofs.records.contents_word.Statement.{statement}
 use Rattle.area.proofs.records.contents_word.Tie as tie
@@ -20,7 +21,7 @@ shared-slice-read-result c = search needs
 returns : tie.Need-returns
 returns c =
     let b = c .before .before .before .args in
-    contents-is (b .p .n) (b .p .c) (b .area .now) (b .s) (b .j)
+    contents-is (its-shape (b .p)) (b .area .now) (b .s) (b .j)
     (omega arith) (omega arith) (c .before .slot-word .ensures .0)
 
 pub contents-word-spec : {M : Type 1} → statement M

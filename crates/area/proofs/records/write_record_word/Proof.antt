@@ -1,6 +1,7 @@
 -- `records::write_record_word` meets its contract: what is read is that word of the writer's record. Assumes nothing.
 use borrow.Author.Needs.{needs}
 use native.Mathlib.Omega.{arith}
+use Rattle.area.specs.Words.{its-shape}
 use Rattle.area.proofs.Words.{write-record-is}
 use Rattle.area.proofs.records.write_record_word.Statement.{statement}
 use Rattle.area.proofs.records.write_record_word.Tie as tie
@@ -20,7 +21,7 @@ shared-slice-read-result c = search needs
 returns : tie.Need-returns
 returns c =
     let b = c .before .before .before .args in
-    write-record-is (b .p .n) (b .p .c) (b .area .now) (b .j) (omega arith) (c .before .writer-word .ensures .0)
+    write-record-is (its-shape (b .p)) (b .area .now) (b .j) (omega arith) (c .before .writer-word .ensures .0)
 
 pub write-record-word-spec : {M : Type 1} → statement M
 write-record-word-spec =

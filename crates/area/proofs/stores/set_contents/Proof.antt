@@ -1,5 +1,6 @@
 -- `stores::set_contents` meets its contract: what is set is that word of the slot's contents. Assumes nothing.
 use borrow.Author.Needs.{needs}
+use Rattle.area.specs.Words.{its-shape}
 use Rattle.area.proofs.Words.{contents-set}
 use Rattle.area.proofs.stores.set_contents.Statement.{statement}
 use Rattle.area.proofs.stores.set_contents.Tie as tie
@@ -22,7 +23,7 @@ same-length c = search needs
 returns : tie.Need-returns
 returns c =
     let b = c .before .before .args in
-    contents-set (b .p .n) (b .p .c) (b .area .now) (b .v) (b .s) (b .j) (c .slot-word .ensures .0)
+    contents-set (its-shape (b .p)) (b .area .now) (b .v) (b .s) (b .j) (c .slot-word .ensures .0)
 
 pub set-contents-spec : {M : Type 1} → statement M
 set-contents-spec =

@@ -1,5 +1,7 @@
 -- `stores::set_slot_field` meets its contract: what is set is that field of the slot. Assumes nothing.
+use native.Mathlib.Omega.{arith}
 use borrow.Author.Needs.{needs}
+use Rattle.area.specs.Words.{its-shape}
 use Rattle.area.proofs.Words.{slot-field-set}
 use Rattle.area.proofs.stores.set_slot_field.Statement.{statement}
 use Rattle.area.proofs.stores.set_slot_field.Tie as tie
@@ -19,7 +21,7 @@ same-length c = search needs
 returns : tie.Need-returns
 returns c =
     let b = c .before .before .args in
-    slot-field-set (b .p .n) (b .p .c) (b .area .now) (b .v) (b .f) (b .s) (c .slot-word .ensures .0)
+    slot-field-set (its-shape (b .p)) (b .area .now) (b .v) (b .f) (b .s) (omega arith) (c .slot-word .ensures .0)
 
 pub set-slot-field-spec : {M : Type 1} → statement M
 set-slot-field-spec =

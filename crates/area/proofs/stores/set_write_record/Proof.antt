@@ -1,5 +1,6 @@
 -- `stores::set_write_record` meets its contract: what is set is that word of the writer's record. Assumes nothing.
 use borrow.Author.Needs.{needs}
+use Rattle.area.specs.Words.{its-shape}
 use Rattle.area.proofs.Words.{write-record-set}
 use Rattle.area.proofs.stores.set_write_record.Statement.{statement}
 use Rattle.area.proofs.stores.set_write_record.Tie as tie
@@ -22,7 +23,7 @@ same-length c = search needs
 returns : tie.Need-returns
 returns c =
     let b = c .before .before .args in
-    write-record-set (b .p .n) (b .p .c) (b .area .now) (b .v) (b .j) (c .writer-word .ensures .0)
+    write-record-set (its-shape (b .p)) (b .area .now) (b .v) (b .j) (c .writer-word .ensures .0)
 
 pub set-write-record-spec : {M : Type 1} → statement M
 set-write-record-spec =

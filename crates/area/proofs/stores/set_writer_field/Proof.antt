@@ -1,5 +1,7 @@
 -- `stores::set_writer_field` meets its contract: what is set is that field of the writer's desk. Assumes nothing.
+use native.Mathlib.Omega.{arith}
 use borrow.Author.Needs.{needs}
+use Rattle.area.specs.Words.{its-shape}
 use Rattle.area.proofs.Words.{writer-field-set}
 use Rattle.area.proofs.stores.set_writer_field.Statement.{statement}
 use Rattle.area.proofs.stores.set_writer_field.Tie as tie
@@ -19,7 +21,7 @@ same-length c = search needs
 returns : tie.Need-returns
 returns c =
     let b = c .before .before .args in
-    writer-field-set (b .p .n) (b .p .c) (b .area .now) (b .v) (b .f) (c .writer-word .ensures .0)
+    writer-field-set (its-shape (b .p)) (b .area .now) (b .v) (b .f) (omega arith) (c .writer-word .ensures .0)
 
 pub set-writer-field-spec : {M : Type 1} → statement M
 set-writer-field-spec =
