@@ -6,16 +6,16 @@ use native.Mathlib.Numerals.{add-one}
 use native.Mathlib.Omega.{arith}
 use lib.ListN.{length, getD, drop, drop-of-length-le}
 use lib.Seq.{drop-cons}
+use Rattle.register.specs.Shape.{table}
 use Rattle.theory.specs.Place.{Record, Place, Store, _≔_, copied}
-use Rattle.register.specs.Area.{form1}
 use Rattle.theory.proofs.Tables.{length-store}
-use Rattle.area.specs.Words.{words-after}
+use Rattle.area.specs.Words.{words-after, its-shape}
 use Rattle.area.specs.declared.Layout.{Layout}
 
 -- stores leave the number of words
 after-length : (p : Layout) (a : List ℕ) {b : List ℕ} (l : List Store) → b ≡ words-after p a l
     → length b ≡ length a
-after-length p a l e = ap length e ∙ length-store (form1 (p .n) (p .c)) a l
+after-length p a l e = ap length e ∙ length-store (table (its-shape p)) a l
 
 -- words a₀ became a when i words of v were copied into a row: the stores that are left make what all of them make
 pub record Copying (p : Layout) (at : ℕ → Place) (v : Record) (a₀ a : List ℕ) (i : ℕ) : Type 0 where

@@ -12,11 +12,12 @@ use Prim.Native.Nat.{ℕ, _+_, _<_}
 use native.Mathlib.Omega.{arith}
 use lib.ListN.{length, set}
 use borrow.Author.Tests.{le-ltb}
+use Rattle.register.specs.Shape.{table}
 use Rattle.theory.specs.Place.{Store}
 use Rattle.theory.specs.Table.{Table, address, store}
-use Rattle.register.specs.Area.{form1, last, in-hand}
+use Rattle.register.specs.Area.{last, in-hand}
 use Rattle.register.specs.Steps.{Plan, refuse, accept}
-use Rattle.area.specs.Words.{Sized, memory-of, words-after}
+use Rattle.area.specs.Words.{Sized, memory-of, words-after, its-shape}
 use Rattle.area.specs.declared.Layout.{Layout}
 use Rattle.answer.specs.declared.Answer.{Answer as Returned}
 use Rattle.answer.specs.Carried.{whole, Ready, carried}
@@ -46,7 +47,7 @@ store-append t a (s ∷ k) l = store-append t (set a (address t (s .place)) (s .
 pub then : (p : Layout) (a : List ℕ) (k l : List Store) {b d : List ℕ} → b ≡ words-after p a k
     → d ≡ words-after p b l
     → d ≡ words-after p a (k ++ l)
-then p a k l e f = f ∙ ap (λ y. words-after p y l) e ∙ store-append (form1 (p .n) (p .c)) a k l
+then p a k l e f = f ∙ ap (λ y. words-after p y l) e ∙ store-append (table (its-shape p)) a k l
 
 -- what a call returns that has no age
 abbrev pub returned : ℕ → Bool → Returned

@@ -9,7 +9,7 @@ use Rattle.register.specs.Area.{writer-phase, writes-ended, most-writes}
 use Rattle.register.specs.Steps.{Plan, refuse, accept}
 use Rattle.register.specs.Calls.{Answer, refused, age-of}
 use Rattle.register.specs.Conditions.{Whole}
-use Rattle.area.specs.Words.{Sized, memory-of, words-after}
+use Rattle.area.specs.Words.{Sized, memory-of, words-after, its-shape}
 use Rattle.area.specs.declared.Layout.{Layout}
 use Rattle.answer.specs.declared.Answer.{Answer as Returned}
 
@@ -20,7 +20,7 @@ whole x a = record { number = x .number; ended = x .ended; age = x .age; area = 
 -- an undamaged area that a layout fits
 pub record Ready (p : Layout) (a : List ℕ) : Type 0 where
   pub sized : Sized p a
-  pub sound : Whole (p .n) (p .c) (memory-of p a)
+  pub sound : Whole (its-shape p) (memory-of p a)
 
 -- in writer phase 7, writes ended plus 1 fits into a word: an undamaged area has this
 abbrev pub SumFits : Layout → List ℕ → Type 0

@@ -4,7 +4,7 @@ use Prim.Native.Nat.{ℕ, _+_, _*_, _≤_, _<_}
 use native.Mathlib.Nat.{mul-le-mul}
 use native.Mathlib.Omega.{arith}
 use Rattle.theory.specs.Table.{offset, width, total}
-use Rattle.register.specs.Shape.{Shape, table}
+use Rattle.register.specs.Shape.{Shape, limit, table}
 use Rattle.theory.proofs.Tables.{row-within}
 use Rattle.area.specs.declared.Layout.{Layout}
 use Rattle.area.specs.Words.{word-at, layout-of, its-shape, Laid}
@@ -37,6 +37,10 @@ module _ {p : Layout} (l : Laid p) where
   -- the number of words that a layout says
   pub total-is : p .total ≡ total (table (its-shape p))
   total-is = ap (λ q. q .total) (l .exact)
+
+  -- the limit that it says
+  pub limit-is : p .limit ≡ limit (its-shape p)
+  limit-is = ap (λ q. q .limit) (l .exact)
 
   -- its area is small
   laid-small : total (table (its-shape p)) ≤ 34199

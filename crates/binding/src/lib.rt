@@ -7,7 +7,7 @@ use area::stores;
 ghost use mathlib.Core.Path.{_≡_};
 ghost use Prim.Native.Nat.{_<_};
 ghost use Rattle.register.specs.Steps.{reader-1, reader-2, reader-3};
-ghost use Rattle.area.specs.Words.{memory-of};
+ghost use Rattle.area.specs.Words.{its-shape, memory-of};
 ghost use Rattle.answer.specs.Carried.{whole, Ready, carried};
 
 // Step 1 (R1): look at current's index.
@@ -15,7 +15,7 @@ pub fn compares(area: &mut [u64], p: Layout, r: usize) -> Answer
     requires { ⌜ Ready p (now area) × (r < p .n) ⌝ }
     ensures { λ x. ⌜
         whole x (now (area .exit))
-        ≡ carried p r (now (area .entry)) (reader-1 (p .n) (memory-of p (now (area .entry))) r)
+        ≡ carried p r (now (area .entry)) (reader-1 (its-shape p) (memory-of p (now (area .entry))) r)
         ⌝ }
 {
     let seen: &[u64] = area;
@@ -32,13 +32,14 @@ pub fn unbinds(area: &mut [u64], p: Layout, r: usize) -> Answer
     requires { ⌜ Ready p (now area) × (r < p .n) ⌝ }
     ensures { λ x. ⌜
         whole x (now (area .exit))
-        ≡ carried p r (now (area .entry)) (reader-2 (p .n) (memory-of p (now (area .entry))) r)
+        ≡ carried p r (now (area .entry)) (reader-2 (its-shape p) (memory-of p (now (area .entry))) r)
         ⌝ }
 {
+    let limit = p.limit;
     let seen: &[u64] = area;
     let slot = fields::desk_field(seen, p, r, Layout::LAST) as usize;
     let gone = fields::slot_field(seen, p, slot, Layout::R_END);
-    if gone >= p.n as u64 {
+    if gone >= limit {
         return answer::refusal(2);
     }
     stores::set_slot_field(area, p, slot, Layout::R_END, gone + 1);
@@ -51,11 +52,12 @@ pub fn binds(area: &mut [u64], p: Layout, r: usize) -> Answer
     requires { ⌜ Ready p (now area) × (r < p .n) ⌝ }
     ensures { λ x. ⌜
         whole x (now (area .exit))
-        ≡ carried p r (now (area .entry)) (reader-3 (p .n) (memory-of p (now (area .entry))) r)
+        ≡ carried p r (now (area .entry)) (reader-3 (its-shape p) (memory-of p (now (area .entry))) r)
         ⌝ }
 {
+    let limit = p.limit;
     let current = records::current_word(area, p);
-    if fields::counter(current) >= p.n as u64 {
+    if fields::counter(current) >= limit {
         return answer::refusal(2);
     }
     let bound = current + 1;

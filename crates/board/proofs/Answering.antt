@@ -8,12 +8,12 @@ use Prim.Native.Nat.{ℕ, _<_, _≤_}
 use native.Mathlib.Omega.{arith}
 use lib.Dec.{ltb, eqb}
 use borrow.Author.Tests.{lt-ltb, le-ltb, eq-eqb, ne-eqb}
-use Rattle.register.specs.Area.{readers, capacity, is-area, memory, undamaged}
+use Rattle.register.specs.Area.{is-area, memory, undamaged, shape-of}
 use Rattle.register.specs.Steps.{Plan, refuse, accept, reader-step, writer-step, Move, step, mover, plan}
 use Rattle.register.specs.Calls.{refused, carried-out, answered}
-use Rattle.register.proofs.Facts.{whole-area}
+use Rattle.register.proofs.Facts.{whole-area, every-call}
 use Rattle.area.specs.declared.Layout.{Layout}
-use Rattle.area.specs.Words.{layout-of, memory-of}
+use Rattle.area.specs.Words.{its-shape, layout-of, memory-of}
 use Rattle.testing.specs.Test.{test-number}
 use Rattle.testing.proofs.AreaTest.{sized}
 use Rattle.testing.proofs.TestNumber.{both-pass, refuses}
@@ -32,34 +32,35 @@ module _ (a : List ℕ) {k : ℕ} (e : k ≡ test-number a) (z : k ≡ 0) where
   pub passes : (is-area a ≡ true) × (undamaged a ≡ true)
   passes = both-pass a (sym e ∙ z)
 
-  module _ {p : Layout} (f : p ≡ layout-of (readers a) (capacity a)) where
+  module _ {p : Layout} (f : p ≡ layout-of (shape-of a)) where
     -- the area's own layout fits it
     pub ready : Ready p a
     ready = record { sized = sized a p f (passes .0); sound = rw f (whole-area a (passes .1)) }
 
     -- the call is its plan carried out
     pub carries-out : (x : Move)
-        → carried p (mover (p .n) x) a (plan (p .n) (p .c) (memory-of p a) x) ≡ answered a x
+        → carried p (mover (its-shape p) x) a (plan (its-shape p) (memory-of p a) x) ≡ answered a x
     unfolding carried carried-out answered
     carries-out x =
-        ap (λ q. carried q (mover (q .n) x) a (plan (q .n) (q .c) (memory-of q a) x)) f
-        ∙ go (plan (readers a) (capacity a) (memory a) x)
-        ∙ sym (λ i. cond (passes .0 i) (cond (passes .1 i) done (refused 2 a)) (refused 1 a))
+        ap (λ q. carried q (mover (its-shape q) x) a (plan (its-shape q) (memory-of q a) x)) f
+        ∙ go (plan (shape-of a) (memory a) x)
+        ∙ sym (λ i. cond (passes .0 i)
+        (cond (every-call (shape-of a) x i) (cond (passes .1 i) done (refused 2 a)) (refused 1 a)) (refused 1 a))
       where
         done : Rattle.register.specs.Calls.Answer
-        done = carried-out (mover (readers a) x) a (plan (readers a) (capacity a) (memory a) x)
+        done = carried-out (mover (shape-of a) x) a (plan (shape-of a) (memory a) x)
 
-        go : (y : Plan) → carried (layout-of (readers a) (capacity a)) (mover (readers a) x) a y
-            ≡ carried-out (mover (readers a) x) a y
+        go : (y : Plan) → carried (layout-of (shape-of a)) (mover (shape-of a) x) a y
+            ≡ carried-out (mover (shape-of a) x) a y
         go (refuse j) = refl
         go (accept stores ends) = refl
 
     module _ (q : ℕ) where
       abbrev reads : Plan
-      reads = reader-step (p .n) (memory-of p a) q
+      reads = reader-step (its-shape p) (memory-of p a) q
 
       abbrev writes : Plan
-      writes = writer-step (p .n) (memory-of p a)
+      writes = writer-step (its-shape p) (memory-of p a)
 
       -- what a step carries out, once its process is known
       picked : {x y : Bool} → ltb q (p .n) ≡ x → eqb q (p .n) ≡ y

@@ -9,11 +9,10 @@ use lib.Dec.{eqb, leb}
 use lib.ListN.{length}
 use Rattle.theory.specs.Place.{Record}
 use Rattle.theory.specs.Table.{total}
-use Rattle.register.specs.Area.{form1}
-use Rattle.register.specs.Shape.{known-form, in-range}
+use Rattle.register.specs.Shape.{Shape, table, known-form, in-range}
 use Rattle.register.specs.Steps.{_else_, unless}
 use Rattle.register.specs.Calls.{Answer, refused, fresh, made}
-use Rattle.area.specs.Words.{layout-of, Sized}
+use Rattle.area.specs.Words.{layout-of, Sized, its-shape}
 use Rattle.area.specs.declared.Layout.{Layout}
 use Rattle.area.proofs.Sizes.{laid-of}
 use Rattle.answer.specs.Carried.{whole}
@@ -31,44 +30,44 @@ by-number true true false f x = refl
 by-number true false l f x = refl
 by-number false s l f x = refl
 
-module _ (form n c : ℕ) (v : Record) (a : List ℕ) where
+module _ (k : Shape) (v : Record) (a : List ℕ) where
   -- the number of these lengths
   abbrev number : ℕ
-  number = making-number form n c (length a) (length v)
+  number = making-number k (length a) (length v)
 
   abbrev accepted : Answer
-  accepted = record { number = 0; ended = false; age = 0; area = fresh n c v }
+  accepted = record { number = 0; ended = false; age = 0; area = fresh k v }
 
   -- the answer, by whether it is 0
-  made-by : {b : Bool} → eqb number 0 ≡ b → made form n c v a ≡ cond b accepted (refused number a)
+  made-by : {b : Bool} → eqb number 0 ≡ b → made k v a ≡ cond b accepted (refused number a)
   unfolding made making-number
   made-by e =
-      by-number (known-form form && in-range n c) (eqb (length a) (total (form1 n c))) (leb (length v) c)
-      (λ k. refused k a) accepted
+      by-number (known-form (k .form) && in-range k) (eqb (length a) (total (table k))) (leb (length v) (k .c))
+      (λ i. refused i a) accepted
       ∙ ap (λ b. cond b accepted (refused number a)) e
 
-  module _ {k : ℕ} (e : k ≡ number) where
+  module _ {i : ℕ} (e : i ≡ number) where
     -- another number than 0
-    pub made-refused : k ≢ 0 → {x : Returned} → x ≡ returned k false → whole x a ≡ made form n c v a
+    pub made-refused : i ≢ 0 → {x : Returned} → x ≡ returned i false → whole x a ≡ made k v a
     made-refused d f =
         ap (λ y. whole y a) f ∙ ap (λ j. refused j a) e ∙ sym (made-by (ne-eqb number 0 (λ z. d (e ∙ z))))
 
-    module _ (z : k ≡ 0) where
+    module _ (z : i ≡ 0) where
       -- what making takes
-      pub fits : Fits form n c (length a) (length v)
-      fits = fits-of form n c (length a) (length v) (sym e ∙ z)
+      pub fits : Fits k (length a) (length v)
+      fits = fits-of k (length a) (length v) (sym e ∙ z)
 
-      module _ {p : Layout} (l : p ≡ layout-of n c) where
+      module _ {p : Layout} (l : p ≡ layout-of k) where
         -- the words that are filled, and the record that goes in
         pub made-sized : Sized p a × (length v ≤ p .c)
         made-sized =
             let here = laid-of (fits .taken .few-readers) (fits .taken .few-words) l in (
-              record { laid = here; exact = fits .exact ∙ ap (λ q. total (form1 (q .n) (q .c))) (sym l) },
+              record { laid = here; exact = fits .exact ∙ ap (λ q. total (table (its-shape q))) (sym l) },
               rw (ap (λ q. q .c) l) (fits .short),
             )
 
         -- the fresh area
-        pub made-well : {x : Returned} {b : List ℕ} → x ≡ returned 0 false → b ≡ fresh (p .n) (p .c) v
-            → whole x b ≡ made form n c v a
+        pub made-well : {x : Returned} {b : List ℕ} → x ≡ returned 0 false → b ≡ fresh (its-shape p) v
+            → whole x b ≡ made k v a
         made-well f g =
-            ap₂ whole f (g ∙ ap (λ q. fresh (q .n) (q .c) v) l) ∙ sym (made-by (eq-eqb number 0 (sym e ∙ z)))
+            ap₂ whole f (g ∙ ap (λ q. fresh (its-shape q) v) l) ∙ sym (made-by (eq-eqb number 0 (sym e ∙ z)))

@@ -10,8 +10,7 @@ use lib.Dec.{eqb, leb}
 use lib.ListN.{length}
 use Rattle.theory.specs.Place.{Record}
 use Rattle.theory.specs.Table.{total}
-use Rattle.register.specs.Area.{form1}
-use Rattle.register.specs.Shape.{known-form, in-range}
+use Rattle.register.specs.Shape.{Shape, table, known-form, in-range}
 use Rattle.register.specs.Calls.{Answer, made}
 use Rattle.area.specs.declared.Layout.{Layout}
 use Rattle.area.specs.Words.{layout-of}
@@ -20,15 +19,13 @@ use Rattle.board_c.specs.Sizes.{words-of}
 use Rattle.board_c.specs.Promises.{WordsAreMade}
 
 -- the form is not known, or N or C is out of range
-pub words-none : (form n c : ℕ) {k r : Bool} → k ≡ known-form form → r ≡ in-range n c
-    → not (k && r) ≡ true
-    → 0 ≡ words-of form n c
+pub words-none : (k : Shape) {r : Bool} → r ≡ known-form (k .form) && in-range k → not r ≡ true
+    → 0 ≡ words-of k
 unfolding words-of
-words-none form n c f g h = rw (not-taken form n c f g h)
+words-none k e h = rw (not-taken k e h)
 
 -- they are, and the total is the layout's
-pub words-total : {form n c : ℕ} {p : Layout} → Taken form n c → p ≡ layout-of n c
-    → p .total ≡ words-of form n c
+pub words-total : {k : Shape} {p : Layout} → Taken k → p ≡ layout-of k → p .total ≡ words-of k
 unfolding words-of
 words-total t e = rw (t .known) (ap (λ q. q .total) e)
 
@@ -51,48 +48,48 @@ only-nine true true false k h = absurd (omega (arith, h))
 only-nine true false l k h = absurd (omega (arith, h))
 only-nine false s l k h = refl
 
-module _ (form n c : ℕ) (v : Record) (a : List ℕ) where
+module _ (k : Shape) (v : Record) (a : List ℕ) where
   -- the form is known, and N and C are in range; the words lent are T; the record is not too long
   abbrev taken : Bool
-  taken = known-form form && in-range n c
+  taken = known-form (k .form) && in-range k
 
   abbrev sized : Bool
-  sized = eqb (length a) (total (form1 n c))
+  sized = eqb (length a) (total (table k))
 
   abbrev short : Bool
-  short = leb (length v) c
+  short = leb (length v) (k .c)
 
-  number-is : made form n c v a .number ≡ number-by taken sized short
+  number-is : made k v a .number ≡ number-by taken sized short
   unfolding made
   number-is = picked taken sized short _ _ _ _
 
-  refused : (t : Bool) → taken ≡ t → words-of form n c ≡ 0 → made form n c v a .number ≡ 9
+  refused : (t : Bool) → taken ≡ t → words-of k ≡ 0 → made k v a .number ≡ 9
   unfolding words-of
-  refused true e h = absurd (omega (arith, sym (ap (λ b. cond b (total (form1 n c)) 0) e) ∙ h))
+  refused true e h = absurd (omega (arith, sym (ap (λ b. cond b (total (table k)) 0) e) ∙ h))
   refused false e h = number-is ∙ ap (λ b. number-by b sized short) e
 
-  only : made form n c v a .number ≡ 9 → words-of form n c ≡ 0
+  only : made k v a .number ≡ 9 → words-of k ≡ 0
   unfolding words-of
-  only h = only-nine taken sized short (total (form1 n c)) (sym number-is ∙ h)
+  only h = only-nine taken sized short (total (table k)) (sym number-is ∙ h)
 
   -- the words are T where they are not 0
-  total-is : (t : Bool) → taken ≡ t → words-of form n c ≢ 0
-      → (taken ≡ true) × (words-of form n c ≡ total (form1 n c))
+  total-is : (t : Bool) → taken ≡ t → words-of k ≢ 0
+      → (taken ≡ true) × (words-of k ≡ total (table k))
   unfolding words-of
-  total-is true e d = (e, ap (λ b. cond b (total (form1 n c)) 0) e)
-  total-is false e d = absurd (d (ap (λ b. cond b (total (form1 n c)) 0) e))
+  total-is true e d = (e, ap (λ b. cond b (total (table k)) 0) e)
+  total-is false e d = absurd (d (ap (λ b. cond b (total (table k)) 0) e))
 
-  accepted : words-of form n c ≢ 0 → length a ≡ words-of form n c → length v ≤ c
-      → made form n c v a .number ≡ 0
+  accepted : words-of k ≢ 0 → length a ≡ words-of k → length v ≤ k .c
+      → made k v a .number ≡ 0
   accepted d e h =
       let (t, w) = total-is taken refl d in
-      number-is ∙ rw (t, eq-eqb (length a) (total (form1 n c)) (e ∙ w), le-leb (length v) c h)
+      number-is ∙ rw (t, eq-eqb (length a) (total (table k)) (e ∙ w), le-leb (length v) (k .c) h)
 
-  other : words-of form n c ≢ 0 → length a ≢ words-of form n c → made form n c v a .number ≡ 10
+  other : words-of k ≢ 0 → length a ≢ words-of k → made k v a .number ≡ 10
   other d e =
       let (t, w) = total-is taken refl d in
-      number-is ∙ rw (t, ne-eqb (length a) (total (form1 n c)) (λ z. e (z ∙ sym w)))
+      number-is ∙ rw (t, ne-eqb (length a) (total (table k)) (λ z. e (z ∙ sym w)))
 
-  pub words-are-made : WordsAreMade form n c v a
+  pub words-are-made : WordsAreMade k v a
   words-are-made =
       record { refused = refused taken refl; only = only; accepted = accepted; other = other }

@@ -10,6 +10,7 @@ use board::steps;
 use board::writes;
 use place::RecordPlace;
 ghost use mathlib.Core.Path.{_≡_};
+ghost use Rattle.register.specs.Shape.{shape};
 ghost use Rattle.register.specs.Calls.{made, read-begun, write-begun, stepped};
 ghost use Rattle.place.specs.Places.{place-of};
 ghost use Rattle.board_c.specs.Answers.{as-answer, in-c};
@@ -45,7 +46,7 @@ pub extern "C" fn board_make(
     record: &[u64],
 ) -> BoardAnswer
     ensures { λ x. ⌜ (x, now (area .exit))
-        ≡ in-c (made form n c (now («record» .entry)) (now (area .entry))) ⌝ }
+        ≡ in-c (made (shape form n c) (now («record» .entry)) (now (area .entry))) ⌝ }
 {
     as_answer(making::make(form, n, c, record, area))
 }
@@ -86,12 +87,11 @@ pub extern "C" fn board_show(area: &[u64], reader: u64) -> RecordPlace
 // The words of an area for n readers and records of at most c words, and 0 where making answers 9.
 #[no_mangle]
 pub extern "C" fn board_words(form: u64, n: u64, c: u64) -> u64
-    ensures { λ t. ⌜ t ≡ words-of form n c ⌝ }
+    ensures { λ t. ⌜ t ≡ words-of (shape form n c) ⌝ }
 {
-    let known = header::known_form(form) & header::in_range(n, c);
-    if !known {
+    if !header::known(form, n, c) {
         return 0;
     }
-    let p = Layout::new(n as usize, c as usize);
+    let p = Layout::new(form, n as usize, c as usize);
     p.total as u64
 }

@@ -14,8 +14,9 @@ use native.Mathlib.Numerals.{add-one}
 use native.Mathlib.Omega.{arith}
 use lib.Dec.{eqb, ltb}
 use borrow.Author.Tests.{eq-eqb, ne-eqb, lt-ltb}
+use Rattle.register.specs.Shape.{table}
 use Rattle.theory.specs.Place.{Memory, Store, _≔_, apply}
-use Rattle.register.specs.Area.{form1, size, slot-write-number, contents}
+use Rattle.register.specs.Area.{size, slot-write-number, contents}
 use Rattle.register.specs.Area.{phase, last, pos, len, desk-write-number, finished, read-record}
 use Rattle.register.specs.Steps.{accept, sets-phase, takes, copies, finishes, reader-4, reader-5}
 use Rattle.register.specs.Area.{writer-phase, writes-ended, most-writes}
@@ -23,7 +24,7 @@ use Rattle.register.specs.Calls.{age-of}
 use Rattle.theory.specs.Lists.{none, also}
 use Rattle.theory.proofs.Tables.{AllHas, view-store}
 use Rattle.register.proofs.Body.{body-desk, body-read-record}
-use Rattle.area.specs.Words.{Sized, memory-of, words-after}
+use Rattle.area.specs.Words.{Sized, memory-of, words-after, its-shape}
 use Rattle.area.specs.declared.Layout.{Layout}
 use Rattle.answer.specs.declared.Answer.{Answer as Returned}
 use Rattle.answer.specs.Carried.{whole, Ready, SumFits, carried}
@@ -63,9 +64,9 @@ ended p r a s h e f g =
 
     kept : age-of later r ≡ age-of (memory-of p a) r
     kept = ap (λ m. age-of m r)
-        (view-store (form1 (p .n) (p .c)) a (finishes r) (s .exact)
-        (also (body-desk (p .n) (p .c) 5 r (omega arith) h .has)
-        (also (body-desk (p .n) (p .c) 0 r (omega arith) h .has) none)))
+        (view-store (table (its-shape p)) a (finishes r) (s .exact)
+        (also (body-desk (its-shape p) 5 r (omega arith) h .has)
+        (also (body-desk (its-shape p) 0 r (omega arith) h .has) none)))
 
     same : cond (ltb r (p .n)) (age-of later r) 0 ≡ age-of (memory-of p a) r
     same = ap (λ q. cond q (age-of later r) 0) (lt-ltb r (p .n) h) ∙ kept
@@ -76,27 +77,27 @@ module _ (p : Layout) (r : ℕ) (a : List ℕ) (v : Ready p a) (h : r < p .n) wh
   abbrev before : Memory
   before = memory-of p a
 
-  room-behind : (l : List Store) {b : List ℕ} → b ≡ words-after p a l → AllHas (form1 (p .n) (p .c)) l
+  room-behind : (l : List Store) {b : List ℕ} → b ≡ words-after p a l → AllHas (table (its-shape p)) l
       → apply before l writer-phase ≡ before writer-phase → apply before l writes-ended ≡ before writes-ended
       → SumFits p b
   room-behind l e has f g =
       subst (λ m. m writer-phase ≡ 7 → m writes-ended < most-writes)
-      (sym (ap (memory-of p) e ∙ view-store (form1 (p .n) (p .c)) a l (v .sized .exact) has))
+      (sym (ap (memory-of p) e ∙ view-store (table (its-shape p)) a l (v .sized .exact) has))
       (λ s. rw g (v .sound .writer .room (λ z. omega arith)))
 
   pub room-taken : {b : List ℕ} → b ≡ words-after p a (takes before r) → SumFits p b
   room-taken e =
       room-behind (takes before r) e
-      (also (body-desk (p .n) (p .c) 3 r (omega arith) h .has)
-      (also (body-desk (p .n) (p .c) 4 r (omega arith) h .has)
-      (also (body-desk (p .n) (p .c) 2 r (omega arith) h .has) none))) refl refl
+      (also (body-desk (its-shape p) 3 r (omega arith) h .has)
+      (also (body-desk (its-shape p) 4 r (omega arith) h .has)
+      (also (body-desk (its-shape p) 2 r (omega arith) h .has) none))) refl refl
 
   pub room-copied : {b : List ℕ} → before (phase r) ≡ 5 → b ≡ words-after p a (copies before r)
       → SumFits p b
   room-copied s e =
       room-behind (copies before r) e
-      (also (body-read-record (p .n) (p .c) r (before (pos r)) h (word-there v h s refl) .has)
-      (also (body-desk (p .n) (p .c) 2 r (omega arith) h .has) none)) refl refl
+      (also (body-read-record (its-shape p) r (before (pos r)) h (word-there v h s refl) .has)
+      (also (body-desk (its-shape p) 2 r (omega arith) h .has) none)) refl refl
 
 module _ (p : Layout) (r : ℕ) (a : List ℕ) (m : Memory) where
   -- ---- step 4: what is stored before the size is tested, and the two ways on
@@ -112,15 +113,15 @@ module _ (p : Layout) (r : ℕ) (a : List ℕ) (m : Memory) where
 
   pub took-none : {s k : ℕ} {x : Returned} {b d : List ℕ} → s ≡ m (last r) → k ≡ m (size s) → k ≡ 0
       → b ≡ words-after p a (takes m r) → whole x d ≡ carried p r b (accept (finishes r) true)
-      → whole x d ≡ carried p r a (reader-4 (p .n) m r)
+      → whole x d ≡ carried p r a (reader-4 (its-shape p) m r)
   took-none {k = k} e f h =
-      goes-on p r a (reader-4 (p .n) m r) (takes m r) (finishes r) (rw (← e, ← f, eq-eqb k 0 h))
+      goes-on p r a (reader-4 (its-shape p) m r) (takes m r) (finishes r) (rw (← e, ← f, eq-eqb k 0 h))
 
   pub took-some : {s k : ℕ} {x : Returned} {b d : List ℕ} → s ≡ m (last r) → k ≡ m (size s) → k ≢ 0
       → b ≡ words-after p a (takes m r) → x ≡ returned 0 false → d ≡ words-after p b (sets-phase r 5)
-      → whole x d ≡ carried p r a (reader-4 (p .n) m r)
+      → whole x d ≡ carried p r a (reader-4 (its-shape p) m r)
   took-some {k = k} e f h i j l =
-      plan-accepts p r a (reader-4 (p .n) m r) (takes m r ++ sets-phase r 5) (rw (← e, ← f, ne-eqb k 0 h)) j
+      plan-accepts p r a (reader-4 (its-shape p) m r) (takes m r ++ sets-phase r 5) (rw (← e, ← f, ne-eqb k 0 h)) j
       (then p a (takes m r) (sets-phase r 5) i l)
 
   -- ---- step 5: what is stored before pos is tested, and the two ways on
@@ -134,14 +135,14 @@ module _ (p : Layout) (r : ℕ) (a : List ℕ) (m : Memory) where
 
     pub copied-all : {x : Returned} {g : List ℕ} → i + 1 ≡ l
         → whole x g ≡ carried p r d (accept (finishes r) true)
-        → whole x g ≡ carried p r a (reader-5 (p .n) m r)
+        → whole x g ≡ carried p r a (reader-5 (its-shape p) m r)
     copied-all h =
-        goes-on p r a (reader-5 (p .n) m r) (copies m r) (finishes r)
+        goes-on p r a (reader-5 (its-shape p) m r) (copies m r) (finishes r)
         (rw (← at, ← words, ← add-one i, eq-eqb (i + 1) l h)) copied
 
     pub copied-one : {x : Returned} → i + 1 ≢ l → x ≡ returned 0 false
-        → whole x d ≡ carried p r a (reader-5 (p .n) m r)
+        → whole x d ≡ carried p r a (reader-5 (its-shape p) m r)
     copied-one h j =
-        plan-accepts p r a (reader-5 (p .n) m r) (copies m r)
+        plan-accepts p r a (reader-5 (its-shape p) m r) (copies m r)
         (rw (← at, ← words, ← add-one i, ne-eqb (i + 1) l h)) j
         copied

@@ -10,7 +10,7 @@ ghost use Prim.Native.Nat.{_<_};
 ghost use Rattle.register.specs.Area.{phase};
 ghost use Rattle.register.specs.Steps.{accept, finishes, reader-4, reader-5};
 ghost use Rattle.register.specs.Calls.{published-writes, age-of};
-ghost use Rattle.area.specs.Words.{Sized, memory-of};
+ghost use Rattle.area.specs.Words.{its-shape, Sized, memory-of};
 ghost use Rattle.answer.specs.Carried.{whole, Ready, SumFits, carried};
 
 // Step 4: take size and write number of slot last. A record of no words ends the read.
@@ -18,7 +18,7 @@ pub fn takes(area: &mut [u64], p: Layout, r: usize) -> Answer
     requires { ⌜ Ready p (now area) × (r < p .n) ⌝ }
     ensures { λ x. ⌜
         whole x (now (area .exit))
-        ≡ carried p r (now (area .entry)) (reader-4 (p .n) (memory-of p (now (area .entry))) r)
+        ≡ carried p r (now (area .entry)) (reader-4 (its-shape p) (memory-of p (now (area .entry))) r)
         ⌝ }
 {
     let seen: &[u64] = area;
@@ -40,7 +40,7 @@ pub fn copies(area: &mut [u64], p: Layout, r: usize) -> Answer
     requires { ⌜ Ready p (now area) × (r < p .n) × (memory-of p (now area) (phase r) ≡ 5) ⌝ }
     ensures { λ x. ⌜
         whole x (now (area .exit))
-        ≡ carried p r (now (area .entry)) (reader-5 (p .n) (memory-of p (now (area .entry))) r)
+        ≡ carried p r (now (area .entry)) (reader-5 (its-shape p) (memory-of p (now (area .entry))) r)
         ⌝ }
 {
     let seen: &[u64] = area;

@@ -15,7 +15,7 @@ use Rattle.theory.specs.Place.{_≔_}
 use Rattle.register.specs.Area.{r-start, r-end, size, slot-write-number, contents}
 use Rattle.register.specs.Area.{writer-phase, last-slot, in-hand, writer-pos, writer-len, writes-ended, write-record}
 use Rattle.register.specs.Steps.{accept, looks, free, picks, passes, fills, sizes}
-use Rattle.area.specs.Words.{memory-of}
+use Rattle.area.specs.Words.{its-shape, memory-of}
 use Rattle.area.specs.declared.Layout.{Layout}
 use Rattle.answer.specs.declared.Answer.{Answer as Returned}
 use Rattle.answer.specs.Carried.{whole, carried}
@@ -47,22 +47,22 @@ module _ (p : Layout) (a : List ℕ) {hand : ℕ} (hand-is : hand ≡ memory-of 
   pub picked : {x : Returned} {is-free : Bool} {len phase : ℕ} {b : List ℕ} → len ≡ memory-of p a writer-len
       → is-free ≡ free (memory-of p a) → is-free ≡ true → phase ≡ cond (eqb len 0) 3 2
       → b ≡ stored p a (writer-phase ≔ phase) → x ≡ returned 0 false
-      → whole x b ≡ carried p (p .n) a (looks (p .n) (memory-of p a))
+      → whole x b ≡ carried p (p .n) a (looks (its-shape p) (memory-of p a))
   picked len-is free-is found phase-is first answer =
       rw (sym free-is ∙ found) (accepts p (p .n) a (picks (memory-of p a)) (rw (first, phase-is, len-is)) answer)
 
   pub none-free : {x : Returned} {is-free : Bool} → is-free ≡ free (memory-of p a) → is-free ≡ false
       → hand ≡ p .n + 1 → x ≡ returned 8 false
-      → whole x a ≡ carried p (p .n) a (looks (p .n) (memory-of p a))
+      → whole x a ≡ carried p (p .n) a (looks (its-shape p) (memory-of p a))
   none-free free-is taken end answer =
       rw (sym free-is ∙ taken, eq-eqb _ _ (sym hand-is ∙ end ∙ add-one (p .n))) (refuses p (p .n) a answer)
 
   pub passed-by : {x : Returned} {is-free : Bool} {b : List ℕ} → is-free ≡ free (memory-of p a)
       → is-free ≡ false → hand ≢ p .n + 1 → b ≡ stored p a (in-hand ≔ (hand + 1))
-      → x ≡ returned 0 false → whole x b ≡ carried p (p .n) a (looks (p .n) (memory-of p a))
+      → x ≡ returned 0 false → whole x b ≡ carried p (p .n) a (looks (its-shape p) (memory-of p a))
   passed-by free-is taken more first answer =
       rw (sym free-is ∙ taken, ne-eqb _ _ (λ end. more (hand-is ∙ end ∙ sym (add-one (p .n)))))
-      (accepts p (p .n) a (passes (memory-of p a)) (rw (first, add-one, hand-is)) answer)
+      (accepts p (p .n) a (passes (memory-of p a)) (rw (first, add-one hand, hand-is)) answer)
 
   -- ---- steps 2 and 3
 
@@ -71,13 +71,14 @@ module _ (p : Layout) (a : List ℕ) {hand : ℕ} (hand-is : hand ≡ memory-of 
       → phase ≡ cond (eqb (pos + 1) len) 3 2 → b ≡ stored p a (contents hand pos ≔ word)
       → d ≡ stored p b (writer-pos ≔ (pos + 1)) → e ≡ stored p d (writer-phase ≔ phase)
       → x ≡ returned 0 false → whole x e ≡ carried p (p .n) a (accept (fills (memory-of p a)) false)
-  filled pos-is len-is word-is phase-is first second third =
+  filled {pos = pos} pos-is len-is word-is phase-is first second third =
       accepts p (p .n) a (fills (memory-of p a))
-      (rw (third, second, first, phase-is, word-is, len-is, add-one, pos-is, hand-is))
+      (rw (third, second, first, phase-is, word-is, len-is, add-one pos, pos-is, hand-is))
 
   pub sized : {x : Returned} {ended len : ℕ} {b d e : List ℕ} → ended ≡ memory-of p a writes-ended
       → len ≡ memory-of p a writer-len → b ≡ stored p a (slot-write-number hand ≔ (ended + 1))
       → d ≡ stored p b (size hand ≔ len) → e ≡ stored p d (writer-phase ≔ 4) → x ≡ returned 0 false
       → whole x e ≡ carried p (p .n) a (accept (sizes (memory-of p a)) false)
-  sized ended-is len-is first second third =
-      accepts p (p .n) a (sizes (memory-of p a)) (rw (third, second, first, len-is, add-one, ended-is, hand-is))
+  sized {ended = ended} ended-is len-is first second third =
+      accepts p (p .n) a (sizes (memory-of p a))
+      (rw (third, second, first, len-is, add-one ended, ended-is, hand-is))

@@ -9,7 +9,7 @@ ghost use mathlib.Core.Logic.{_≢_};
 ghost use mathlib.Core.Bool.{false};
 ghost use Rattle.register.specs.Area.{writer-phase};
 ghost use Rattle.register.specs.Steps.{accept, free, looks, fills, sizes};
-ghost use Rattle.area.specs.Words.{memory-of};
+ghost use Rattle.area.specs.Words.{its-shape, memory-of};
 ghost use Rattle.answer.specs.Carried.{whole, Ready, carried};
 
 // Step 1 (W1): a free slot in hand is picked, another is passed; there is none past the last.
@@ -17,7 +17,7 @@ pub fn looks(area: &mut [u64], p: Layout) -> Answer
     requires { ⌜ Ready p (now area) ⌝ }
     ensures { λ x.
         ⌜ whole x (now (area .exit))
-        ≡ carried p (p .n) (now (area .entry)) (looks (p .n) (memory-of p (now (area .entry)))) ⌝ }
+        ≡ carried p (p .n) (now (area .entry)) (looks (its-shape p) (memory-of p (now (area .entry)))) ⌝ }
 {
     let seen: &[u64] = area;
     let hand = fields::writer_field(seen, p, Layout::IN_HAND);

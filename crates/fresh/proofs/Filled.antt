@@ -7,7 +7,7 @@ use lib.ListN.{length, set, replicate}
 use Rattle.theory.specs.Place.{Record, _≔_, copied}
 use Rattle.register.specs.Area.{size, contents}
 use Rattle.register.specs.Calls.{fresh}
-use Rattle.area.specs.Words.{Laid, Sized, words-after}
+use Rattle.area.specs.Words.{Laid, Sized, words-after, its-shape}
 use Rattle.area.specs.declared.Layout.{Layout}
 use Rattle.area.proofs.Sizes.{total-is}
 use Rattle.answer.proofs.Copying.{Copying, copying-done}
@@ -15,13 +15,13 @@ use Rattle.fresh.specs.Making.{numbers, offsets, starting}
 
 module _ {p : Layout} (l : Laid p) (a : List ℕ) where
   -- words 0 to 3, with the layout's total
-  pub numbers-set : set (set (set (set a 0 1) 1 (p .n)) 2 (p .c)) 3 (p .total)
-      ≡ words-after p a (numbers (p .n) (p .c))
-  numbers-set = ap (set (set (set (set a 0 1) 1 (p .n)) 2 (p .c)) 3) (total-is l)
+  pub numbers-set : set (set (set (set a 0 (p .form)) 1 (p .n)) 2 (p .c)) 3 (p .total)
+      ≡ words-after p a (numbers (its-shape p))
+  numbers-set = ap (set (set (set (set a 0 (p .form)) 1 (p .n)) 2 (p .c)) 3) (total-is l)
 
   -- words 4 to 7, with the layout's offsets
   pub offsets-set : set (set (set (set a 4 (p .slots)) 5 (p .desks)) 6 (p .writer)) 7 (p .n)
-      ≡ words-after p a (offsets (p .n) (p .c))
+      ≡ words-after p a (offsets (its-shape p))
   offsets-set = ap (λ q. set (set (set (set a 4 (q .slots)) 5 (q .desks)) 6 (q .writer)) 7 (p .n)) (l .exact)
 
 -- the size, and then the record's words
@@ -32,9 +32,9 @@ starting-set {p} a {v} x e h = copying-done x h ∙ ap (λ s. words-after p s (c
 
 -- all words 0, and then the three lots of stores
 pub filled : {p : Layout} {a b d e f : List ℕ} (v : Record) → Sized p a → b ≡ replicate (length a) 0
-    → d ≡ words-after p b (numbers (p .n) (p .c)) → e ≡ words-after p d (offsets (p .n) (p .c))
-    → f ≡ words-after p e (starting v) → f ≡ fresh (p .n) (p .c) v
+    → d ≡ words-after p b (numbers (its-shape p)) → e ≡ words-after p d (offsets (its-shape p))
+    → f ≡ words-after p e (starting v) → f ≡ fresh (its-shape p) v
 filled {p} v s w x y z =
     z
-    ∙ ap (λ q. words-after p q (starting v)) (y ∙ ap (λ q. words-after p q (offsets (p .n) (p .c)))
-    (x ∙ ap (λ q. words-after p q (numbers (p .n) (p .c))) (w ∙ ap (λ k. replicate k 0) (s .exact))))
+    ∙ ap (λ q. words-after p q (starting v)) (y ∙ ap (λ q. words-after p q (offsets (its-shape p)))
+    (x ∙ ap (λ q. words-after p q (numbers (its-shape p))) (w ∙ ap (λ k. replicate k 0) (s .exact))))

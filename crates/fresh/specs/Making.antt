@@ -6,27 +6,29 @@ use lib.Dec.{eqb, leb}
 use lib.ListN.{length}
 use Rattle.theory.specs.Place.{Record, Store, _≔_, copied}
 use Rattle.theory.specs.Table.{total}
-use Rattle.register.specs.Area.{form1, header, current, size, contents}
-use Rattle.register.specs.Shape.{slots-at, desks-at, writer-at}
+use Rattle.register.specs.Area.{header, current, size, contents}
+use Rattle.register.specs.Shape.{Shape, table, slots-at, desks-at, writer-at}
 use Rattle.register.specs.Shape.{known-form, in-range}
 use Rattle.register.specs.Steps.{_else_, unless}
 
 -- for as many words lent and a record of a length: the first test that fails gives its number, and 0 says that all
 -- pass
-unfoldable pub making-number : ℕ → ℕ → ℕ → ℕ → ℕ → ℕ
-making-number form n c words length =
-    unless (λ k. k)
-    ((known-form form && in-range n c) else 9 ∷ eqb words (total (form1 n c)) else 10 ∷ leb length c else 4 ∷ [])
+unfoldable pub making-number : Shape → ℕ → ℕ → ℕ
+making-number k words length =
+    unless (λ i. i)
+    ((known-form (k .form) && in-range k) else 9
+    ∷ eqb words (total (table k)) else 10
+    ∷ leb length (k .c) else 4
+    ∷ [])
     0
 
 -- words 0 to 3: the form, N, C and the total
-abbrev pub numbers : ℕ → ℕ → List Store
-numbers n c = header 0 ≔ 1 ∷ header 1 ≔ n ∷ header 2 ≔ c ∷ header 3 ≔ total (form1 n c) ∷ []
+abbrev pub numbers : Shape → List Store
+numbers k = header 0 ≔ k .form ∷ header 1 ≔ k .n ∷ header 2 ≔ k .c ∷ header 3 ≔ total (table k) ∷ []
 
 -- words 4 to 7: where the parts begin, and the current word, by which every reader is counted in slot 0
-abbrev pub offsets : ℕ → ℕ → List Store
-offsets n c =
-    header 4 ≔ slots-at n c ∷ header 5 ≔ desks-at n c ∷ header 6 ≔ writer-at n c ∷ current ≔ n ∷ []
+abbrev pub offsets : Shape → List Store
+offsets k = header 4 ≔ slots-at k ∷ header 5 ≔ desks-at k ∷ header 6 ≔ writer-at k ∷ current ≔ k .n ∷ []
 
 -- the starting record in slot 0
 abbrev pub starting : Record → List Store

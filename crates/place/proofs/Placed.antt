@@ -10,11 +10,11 @@ use native.Mathlib.Omega.{arith}
 use lib.Dec.{eqb}
 use lib.ListN.{length, take, drop}
 use Rattle.theory.specs.Place.{Record}
-use Rattle.register.specs.Area.{readers, capacity, len}
+use Rattle.register.specs.Area.{readers, len, shape-of}
 use Rattle.theory.specs.Lists.{all}
 use Rattle.register.specs.Calls.{is-own, shown}
 use Rattle.area.specs.declared.Layout.{Layout}
-use Rattle.area.specs.Words.{layout-of, desk-word, memory-of}
+use Rattle.area.specs.Words.{layout-of, desk-word, memory-of, its-shape}
 use Rattle.testing.specs.Test.{test-number}
 use Rattle.place.specs.Places.{rest-tests, nowhere, place-of}
 use Rattle.place.specs.Promises.{PlacesAreShown}
@@ -32,7 +32,7 @@ module _ (a : List ℕ) (r : ℕ) where
   pub place-untested : test-number a ≢ 0 → nowhere ≡ place-of a r
   place-untested d = place-none (not-own a r d)
 
-  module _ {p : Layout} (l : p ≡ layout-of (readers a) (capacity a)) (e : test-number a ≡ 0) where
+  module _ {p : Layout} (l : p ≡ layout-of (shape-of a)) (e : test-number a ≡ 0) where
     -- a test of the reader fails
     pub place-busy : all (rest-tests (p .n) (memory-of p a) r) ≡ false → nowhere ≡ place-of a r
     place-busy f = place-none (sym (own-is a r l e) ∙ f)
@@ -42,8 +42,8 @@ module _ (a : List ℕ) (r : ℕ) where
     rested f = sym (own-is a r l e) ∙ f
 
   -- the reader's, by the area's layout
-  pub place-own : {p : Layout} {at words : ℕ} → p ≡ layout-of (readers a) (capacity a) → is-own a r ≡ true
-      → at ≡ desk-word (p .n) (p .c) r 6 → words ≡ memory-of p a (len r)
+  pub place-own : {p : Layout} {at words : ℕ} → p ≡ layout-of (shape-of a) → is-own a r ≡ true
+      → at ≡ desk-word (its-shape p) r (p .words) → words ≡ memory-of p a (len r)
       → record { yes = 1; at = at; len = words } ≡ place-of a r
   unfolding place-of
   place-own l e f g = rw (e, f, g, l)
@@ -72,7 +72,7 @@ module _ (a : List ℕ) (r : ℕ) where
     where
       go : (b : Bool) → is-own a r ≡ b → place-of a r .yes ≡ 0 → is-own a r ≡ false
       go true e h =
-          let own = place-own {p = layout-of (readers a) (capacity a)} refl e refl refl in
+          let own = place-own {p = layout-of (shape-of a)} refl e refl refl in
           absurd (omega (arith, ap (λ p. p .yes) own ∙ h))
       go false e h = e
 
@@ -82,7 +82,7 @@ module _ (a : List ℕ) (r : ℕ) where
   there h d = rw (yes-own h)
 
   -- the words of the desk's record lie within the area
-  record-within : {p : Layout} → Own p a r → desk-word (p .n) (p .c) r 6 + memory-of p a (len r) ≤ length a
+  record-within : {p : Layout} → Own p a r → desk-word (its-shape p) r 6 + memory-of p a (len r) ≤ length a
   record-within {p} o =
       omega (arith, mul-le-mul-right (6 + p .c) (o .exists), o .sized .exact, o .sound .desk r (o .exists) .words)
 

@@ -7,7 +7,7 @@ use mathlib.Core.List.{List}
 use Prim.Native.Nat.{ℕ, _≤_, _<_}
 use lib.Dec.{T, eqb, ltb→lt}
 use Rattle.theory.specs.Place.{Memory}
-use Rattle.register.specs.Area.{phase, finished, readers, capacity, is-area, undamaged}
+use Rattle.register.specs.Area.{phase, finished, readers, is-area, undamaged, shape-of}
 use Rattle.theory.specs.Lists.{all}
 use Rattle.register.specs.Calls.{own-tests, is-own}
 use Rattle.theory.specs.Lists.{Each, also}
@@ -15,7 +15,7 @@ use Rattle.register.specs.Conditions.{Whole}
 use Rattle.theory.proofs.Tests.{passed, true-passes, each-passes}
 use Rattle.register.proofs.Facts.{area-facts, whole-area}
 use Rattle.area.specs.declared.Layout.{Layout}
-use Rattle.area.specs.Words.{layout-of, Sized, memory-of}
+use Rattle.area.specs.Words.{layout-of, Sized, memory-of, its-shape}
 use Rattle.testing.specs.Test.{test-number}
 use Rattle.testing.proofs.AreaTest.{sized}
 use Rattle.testing.proofs.TestNumber.{both-pass, sound-area}
@@ -46,7 +46,7 @@ module _ (a : List ℕ) (r : ℕ) where
       go true e true f = absurd (d (sym (sound-area a e f)))
 
   -- an undamaged area: the reader's tests are left
-  pub own-is : {p : Layout} → p ≡ layout-of (readers a) (capacity a) → test-number a ≡ 0
+  pub own-is : {p : Layout} → p ≡ layout-of (shape-of a) → test-number a ≡ 0
       → all (rest-tests (p .n) (memory-of p a) r) ≡ is-own a r
   unfolding is-own
   own-is l e = let (f, g) = both-pass a e in rw (l, f, g)
@@ -54,7 +54,7 @@ module _ (a : List ℕ) (r : ℕ) where
 -- what is known of the area and the reader whose record it is
 pub record Own (p : Layout) (a : List ℕ) (r : ℕ) : Type 0 where
   pub sized : Sized p a
-  pub sound : Whole (p .n) (p .c) (memory-of p a)
+  pub sound : Whole (its-shape p) (memory-of p a)
   pub words : 1 ≤ p .c
   pub exists : r < p .n
 
@@ -65,7 +65,7 @@ module _ (a : List ℕ) (r : ℕ) (o : is-own a r ≡ true) where
   own-parts = each-passes (own-tests a r) (true-passes _ o)
 
   -- what they say, by the area's layout
-  pub own-facts : {p : Layout} → p ≡ layout-of (readers a) (capacity a) → Own p a r
+  pub own-facts : {p : Layout} → p ≡ layout-of (shape-of a) → Own p a r
   own-facts {p} l = go own-parts
     where
       go : Each T (own-tests a r) → Own p a r

@@ -6,7 +6,7 @@ use lib.Dec.{eqb, ltb}
 use Rattle.theory.specs.Place.{Memory}
 use Rattle.theory.specs.Table.{address}
 use Rattle.register.specs.Shape.{table}
-use Rattle.register.specs.Area.{memory, phase, len, finished, read-record}
+use Rattle.register.specs.Area.{shape-of, memory, phase, len, finished, read-record}
 use Rattle.register.specs.Calls.{is-own}
 use Rattle.place.specs.declared.RecordPlace.{RecordPlace}
 
@@ -22,5 +22,5 @@ nowhere = record { yes = 0; at = 0; len = 0 }
 unfoldable pub place-of : List ℕ → ℕ → RecordPlace
 place-of a r =
     cond (is-own a r)
-    (record { yes = 1; at = address (table a) (read-record r 0); len = memory a (len r) })
+    (record { yes = 1; at = address (table (shape-of a)) (read-record r 0); len = memory a (len r) })
     nowhere

@@ -6,7 +6,7 @@ use area::stores;
 ghost use mathlib.Core.Path.{_≡_};
 ghost use Prim.Native.Nat.{_<_};
 ghost use Rattle.register.specs.Steps.{read-begins, reader-step};
-ghost use Rattle.area.specs.Words.{memory-of};
+ghost use Rattle.area.specs.Words.{its-shape, memory-of};
 ghost use Rattle.answer.specs.Carried.{whole, Ready, carried};
 
 // A begin of a read: phase 1 and nothing else.
@@ -14,7 +14,7 @@ pub fn read_begins(area: &mut [u64], p: Layout, r: usize) -> Answer
     requires { ⌜ Ready p (now area) ⌝ }
     ensures { λ x. ⌜
         whole x (now (area .exit))
-        ≡ carried p r (now (area .entry)) (read-begins (p .n) (memory-of p (now (area .entry))) r)
+        ≡ carried p r (now (area .entry)) (read-begins (its-shape p) (memory-of p (now (area .entry))) r)
         ⌝ }
 {
     if r >= p.n {
@@ -33,7 +33,7 @@ pub fn reader_step(area: &mut [u64], p: Layout, r: usize) -> Answer
     requires { ⌜ Ready p (now area) × (r < p .n) ⌝ }
     ensures { λ x. ⌜
         whole x (now (area .exit))
-        ≡ carried p r (now (area .entry)) (reader-step (p .n) (memory-of p (now (area .entry))) r)
+        ≡ carried p r (now (area .entry)) (reader-step (its-shape p) (memory-of p (now (area .entry))) r)
         ⌝ }
 {
     let phase = fields::desk_field(area, p, r, Layout::PHASE);

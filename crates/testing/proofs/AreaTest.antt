@@ -7,13 +7,14 @@ use Prim.Native.Nat.{ℕ, _≤_, _<_}
 use lib.Dec.{eqb}
 use lib.ListN.{length, getD}
 use Rattle.theory.specs.Table.{total}
-use Rattle.register.specs.Area.{form1, readers, capacity, is-area}
+use Rattle.register.specs.Shape.{table}
+use Rattle.register.specs.Area.{shape-of, is-area}
 use Rattle.register.specs.Shape.{known-form, in-range}
 use Rattle.theory.specs.Lists.{all}
 use Rattle.register.specs.Area.{memory-tests, undamaged}
 use Rattle.register.proofs.Facts.{area-facts}
 use Rattle.area.specs.declared.Layout.{Layout}
-use Rattle.area.specs.Words.{layout-of, Sized, memory-of}
+use Rattle.area.specs.Words.{its-shape, layout-of, Sized, memory-of}
 use Rattle.area.proofs.Sizes.{laid-of}
 use Rattle.area.proofs.Joined.{five}
 use Rattle.area.proofs.Taken.{not-taken}
@@ -31,11 +32,11 @@ fit-joined p a =
 module _ (a : List ℕ) where
   -- the form is known, and N and C are in range
   abbrev taken : Bool
-  taken = known-form (getD a 0 0) && in-range (readers a) (capacity a)
+  taken = known-form (getD a 0 0) && in-range (shape-of a)
 
   -- the tests that are left behind those two
   abbrev left : Bool
-  left = all (fit-tests (layout-of (readers a) (capacity a)) a)
+  left = all (fit-tests (layout-of (shape-of a)) a)
 
   -- fewer than eight words
   pub too-short : length a < 8 → is-area a ≡ false
@@ -47,30 +48,29 @@ module _ (a : List ℕ) where
   unfolding is-area
   enough h =
       rw (le-leb 8 (length a) h)
-      (sym (and-assoc (known-form (getD a 0 0)) (in-range (readers a) (capacity a)) left))
+      (sym (and-assoc (known-form (getD a 0 0)) (in-range (shape-of a)) left))
 
   module _ (h : 8 ≤ length a) where
-    -- the code asks of the form and of N and C, and one of the two fails
-    pub unknown : {k r : Bool} → k ≡ known-form (getD a 0 0) → r ≡ in-range (readers a) (capacity a)
-        → not (k && r) ≡ true → is-area a ≡ false
-    unknown f g n = enough h ∙ ap (λ b. b && left) (not-taken (getD a 0 0) (readers a) (capacity a) f g n)
+    -- the code asks of the form and of N and C, and the test fails
+    pub unknown : {r : Bool} → r ≡ taken → not r ≡ true → is-area a ≡ false
+    unknown e n = enough h ∙ ap (λ b. b && left) (not-taken (shape-of a) e n)
 
     -- both tests pass, and those by the layout are left
-    pub by-layout : {p : Layout} → p ≡ layout-of (readers a) (capacity a) → taken ≡ true
+    pub by-layout : {p : Layout} → p ≡ layout-of (shape-of a) → taken ≡ true
         → all (fit-tests p a) ≡ is-area a
     by-layout l e = ap (λ q. all (fit-tests q a)) l ∙ sym (enough h ∙ ap (λ b. b && left) e)
 
-  module _ (p : Layout) (e : p ≡ layout-of (readers a) (capacity a)) where
+  module _ (p : Layout) (e : p ≡ layout-of (shape-of a)) where
     -- an area has the words that its layout says
     pub sized : is-area a ≡ true → Sized p a
     sized h =
         let facts = area-facts a h in
         record {
           laid = laid-of (facts .range .few-readers) (facts .range .few-words) e;
-          exact = facts .exact ∙ ap (λ q. total (form1 (q .n) (q .c))) (sym e);
+          exact = facts .exact ∙ ap (λ q. total (table (its-shape q))) (sym e);
         }
 
     -- test 2 over the layout is test 2
-    pub undamaged-is : all (memory-tests (p .n) (p .c) (memory-of p a)) ≡ undamaged a
+    pub undamaged-is : all (memory-tests (its-shape p) (memory-of p a)) ≡ undamaged a
     unfolding undamaged
-    undamaged-is = ap (λ q. all (memory-tests (q .n) (q .c) (memory-of q a))) e
+    undamaged-is = ap (λ q. all (memory-tests (its-shape q) (memory-of q a))) e

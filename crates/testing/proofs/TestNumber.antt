@@ -5,9 +5,10 @@ use mathlib.Core.Path.{_≡_, refl, sym}
 use mathlib.Core.List.{List}
 use Prim.Native.Nat.{ℕ}
 use native.Mathlib.Omega.{arith}
-use Rattle.register.specs.Area.{is-area, undamaged}
+use Rattle.register.specs.Area.{shape-of, is-area, undamaged}
 use Rattle.register.specs.Steps.{Move}
 use Rattle.register.specs.Calls.{refused, answered}
+use Rattle.register.proofs.Facts.{every-call}
 use Rattle.testing.specs.Test.{test-number}
 
 module _ (a : List ℕ) where
@@ -44,5 +45,5 @@ module _ (a : List ℕ) where
       go : (b : Bool) → is-area a ≡ b → (u : Bool) → undamaged a ≡ u
           → answered a x ≡ refused (test-number a) a
       go false e u f = rw e
-      go true e false f = rw (e, f)
+      go true e false f = rw (e, every-call (shape-of a) x, f)
       go true e true f = absurd (d (sym (sound-area e f)))

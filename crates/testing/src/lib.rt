@@ -32,11 +32,11 @@ fn is_area(area: &[u64]) -> bool
     }
     let n = area[Layout::READERS];
     let c = area[Layout::CAPACITY];
-    let known = header::known_form(area[Layout::FORM]) & header::in_range(n, c);
-    if !known {
+    let form = area[Layout::FORM];
+    if !header::known(form, n, c) {
         return false;
     }
-    let p = Layout::new(n as usize, c as usize);
+    let p = Layout::new(form, n as usize, c as usize);
     fits(area, p)
 }
 

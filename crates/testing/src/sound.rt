@@ -2,38 +2,39 @@
 use area::Layout;
 use area::fields;
 ghost use mathlib.Core.Path.{_≡_};
-ghost use Prim.Native.Nat.{_+_, _≤_, _<_};
+ghost use Prim.Native.Nat.{_+_, _<_};
 ghost use Rattle.theory.specs.Lists.{all, every};
 ghost use Rattle.register.specs.Area.{memory-tests};
 ghost use Rattle.register.specs.Area.{word-sound, slot-sound, desk-sound, writer-sound};
-ghost use Rattle.area.specs.Words.{Sized, memory-of};
+ghost use Rattle.area.specs.Words.{its-shape, Laid, Sized, memory-of};
 
-// Whether the current word, or the old word, names a slot and counts at most every reader.
-fn word_sound(n: usize, word: u64) -> bool
-    requires { ⌜ n ≤ 64 ⌝ }
-    ensures { λ r. ⌜ r ≡ word-sound n word ⌝ }
+// Whether the current word, or the old word, names a slot and counts no more than the limit.
+fn word_sound(p: Layout, word: u64) -> bool
+    requires { ⌜ Laid p ⌝ }
+    ensures { λ r. ⌜ r ≡ word-sound (its-shape p) word ⌝ }
 {
-    let readers = n as u64;
-    (fields::index(word) < readers + 2) & (fields::counter(word) <= readers)
+    let slots = p.n as u64 + 2;
+    let limit = p.limit;
+    (fields::index(word) < slots) & (fields::counter(word) <= limit)
 }
 
 // Whether slot s is undamaged.
 fn slot_sound(area: &[u64], p: Layout, s: usize) -> bool
     requires { ⌜ Sized p (now area) × (s < p .n + 2) ⌝ }
-    ensures { λ r. ⌜ r ≡ slot-sound (p .n) (p .c) (memory-of p (now (area .entry))) s ⌝ }
+    ensures { λ r. ⌜ r ≡ slot-sound (its-shape p) (memory-of p (now (area .entry))) s ⌝ }
 {
-    let readers = p.n as u64;
+    let limit = p.limit;
     let words = p.c as u64;
     let r_start = fields::slot_field(area, p, s, Layout::R_START);
     let r_end = fields::slot_field(area, p, s, Layout::R_END);
     let size = fields::slot_field(area, p, s, Layout::SIZE);
-    (r_start <= readers) & (r_end <= readers) & (size <= words)
+    (r_start <= limit) & (r_end <= limit) & (size <= words)
 }
 
 // Whether every slot is undamaged.
 fn slots_sound(area: &[u64], p: Layout) -> bool
     requires { ⌜ Sized p (now area) ⌝ }
-    ensures { λ r. ⌜ r ≡ every (p .n + 2) 0 (slot-sound (p .n) (p .c) (memory-of p (now (area .entry)))) ⌝ }
+    ensures { λ r. ⌜ r ≡ every (p .n + 2) 0 (slot-sound (its-shape p) (memory-of p (now (area .entry)))) ⌝ }
 {
     let slots = p.n + 2;
     for s in 0..slots {
@@ -47,7 +48,7 @@ fn slots_sound(area: &[u64], p: Layout) -> bool
 // Whether the desk of reader r is undamaged.
 fn desk_sound(area: &[u64], p: Layout, r: usize) -> bool
     requires { ⌜ Sized p (now area) × (r < p .n) ⌝ }
-    ensures { λ b. ⌜ b ≡ desk-sound (p .n) (p .c) (memory-of p (now (area .entry))) r ⌝ }
+    ensures { λ b. ⌜ b ≡ desk-sound (its-shape p) (memory-of p (now (area .entry))) r ⌝ }
 {
     let slots = p.n as u64 + 2;
     let words = p.c as u64;
@@ -63,7 +64,7 @@ fn desk_sound(area: &[u64], p: Layout, r: usize) -> bool
 // Whether every reader's desk is undamaged.
 fn desks_sound(area: &[u64], p: Layout) -> bool
     requires { ⌜ Sized p (now area) ⌝ }
-    ensures { λ r. ⌜ r ≡ every (p .n) 0 (desk-sound (p .n) (p .c) (memory-of p (now (area .entry)))) ⌝ }
+    ensures { λ r. ⌜ r ≡ every (p .n) 0 (desk-sound (its-shape p) (memory-of p (now (area .entry)))) ⌝ }
 {
     let desks = p.n;
     for r in 0..desks {
@@ -77,7 +78,7 @@ fn desks_sound(area: &[u64], p: Layout) -> bool
 // Whether the writer's desk is undamaged.
 fn writer_sound(area: &[u64], p: Layout) -> bool
     requires { ⌜ Sized p (now area) ⌝ }
-    ensures { λ r. ⌜ r ≡ writer-sound (p .n) (p .c) (memory-of p (now (area .entry))) ⌝ }
+    ensures { λ r. ⌜ r ≡ writer-sound (its-shape p) (memory-of p (now (area .entry))) ⌝ }
 {
     let slots = p.n as u64 + 2;
     let words = p.c as u64;
@@ -86,7 +87,7 @@ fn writer_sound(area: &[u64], p: Layout) -> bool
     let in_hand = fields::writer_field(area, p, Layout::IN_HAND);
     let pos = fields::writer_field(area, p, Layout::WRITER_POS);
     let len = fields::writer_field(area, p, Layout::WRITER_LEN);
-    let old = word_sound(p.n, fields::writer_field(area, p, Layout::OLD_WORD));
+    let old = word_sound(p, fields::writer_field(area, p, Layout::OLD_WORD));
     let ended = fields::writer_field(area, p, Layout::WRITES_ENDED);
     let copying = (phase != 2) | (pos < len);
     let looking = (phase != 1) | (pos == 0);
@@ -98,9 +99,9 @@ fn writer_sound(area: &[u64], p: Layout) -> bool
 // Whether an area is undamaged.
 pub fn undamaged(area: &[u64], p: Layout) -> bool
     requires { ⌜ Sized p (now area) ⌝ }
-    ensures { λ r. ⌜ r ≡ all (memory-tests (p .n) (p .c) (memory-of p (now (area .entry)))) ⌝ }
+    ensures { λ r. ⌜ r ≡ all (memory-tests (its-shape p) (memory-of p (now (area .entry)))) ⌝ }
 {
-    if !word_sound(p.n, area[Layout::CURRENT]) {
+    if !word_sound(p, area[Layout::CURRENT]) {
         return false;
     }
     if !slots_sound(area, p) {

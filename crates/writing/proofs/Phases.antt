@@ -12,15 +12,16 @@ use Rattle.register.specs.Area.{writer-phase}
 use Rattle.register.specs.Steps.{Plan, refuse, accept, at-phase, looks, writer-step}
 use Rattle.register.specs.Steps.{fills, sizes, clears-start, clears-end, publishes, freezes}
 use Rattle.register.specs.Calls.{Answer}
-use Rattle.area.specs.Words.{memory-of}
+use Rattle.register.specs.Shape.{Shape}
+use Rattle.area.specs.Words.{its-shape, memory-of}
 use Rattle.area.specs.declared.Layout.{Layout}
 use Rattle.answer.specs.Carried.{carried}
 
 -- one plan for each phase, as `writer-step` has them
-abbrev writer-plans : ℕ → Memory → List Plan
-writer-plans n m =
+abbrev writer-plans : Shape → Memory → List Plan
+writer-plans k m =
     refuse 6
-    ∷ looks n m
+    ∷ looks k m
     ∷ accept (fills m) false
     ∷ accept (sizes m) false
     ∷ accept (clears-start m) false
@@ -31,11 +32,11 @@ writer-plans n m =
 
 pub in-phase : (p : Layout) (a : List ℕ) (k : ℕ) {phase : ℕ} {r : Answer}
     → phase ≡ memory-of p a writer-phase → phase ≡ k
-    → r ≡ carried p (p .n) a (at-phase k (writer-plans (p .n) (memory-of p a)))
-    → r ≡ carried p (p .n) a (writer-step (p .n) (memory-of p a))
+    → r ≡ carried p (p .n) a (at-phase k (writer-plans (its-shape p) (memory-of p a)))
+    → r ≡ carried p (p .n) a (writer-step (its-shape p) (memory-of p a))
 unfolding writer-step
 in-phase p a k phase-is here done =
-    done ∙ ap (λ j. carried p (p .n) a (at-phase j (writer-plans (p .n) (memory-of p a)))) (sym here ∙ phase-is)
+    done ∙ ap (λ j. carried p (p .n) a (at-phase j (writer-plans (its-shape p) (memory-of p a)))) (sym here ∙ phase-is)
 
 -- no phase is past 7
 past-three : (k : ℕ) → k ≢ 0 → k ≢ 1 → k ≢ 2 → k ≢ 3 → 4 ≤ k

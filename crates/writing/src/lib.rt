@@ -9,7 +9,7 @@ ghost use lib.ListN.{length};
 ghost use Rattle.theory.specs.Place.{copied};
 ghost use Rattle.register.specs.Area.{write-record};
 ghost use Rattle.register.specs.Steps.{sets-out, write-begins, writer-step};
-ghost use Rattle.area.specs.Words.{Sized, memory-of, words-after};
+ghost use Rattle.area.specs.Words.{its-shape, Sized, memory-of, words-after};
 ghost use Rattle.answer.specs.Carried.{whole, Ready, carried};
 
 // A begin of a write with a record.
@@ -18,7 +18,7 @@ pub fn write_begins(area: &mut [u64], p: Layout, words: &[u64]) -> Answer
     ensures { λ x.
         ⌜ whole x (now (area .exit))
         ≡ carried p (p .n) (now (area .entry))
-        (write-begins (p .n) (memory-of p (now (area .entry))) (p .c) (now (words .entry))) ⌝ }
+        (write-begins (its-shape p) (memory-of p (now (area .entry))) (now (words .entry))) ⌝ }
 {
     let capacity = p.c;
     let seen: &[u64] = area;
@@ -69,7 +69,7 @@ pub fn writer_step(area: &mut [u64], p: Layout) -> Answer
     requires { ⌜ Ready p (now area) ⌝ }
     ensures { λ x.
         ⌜ whole x (now (area .exit))
-        ≡ carried p (p .n) (now (area .entry)) (writer-step (p .n) (memory-of p (now (area .entry)))) ⌝ }
+        ≡ carried p (p .n) (now (area .entry)) (writer-step (its-shape p) (memory-of p (now (area .entry)))) ⌝ }
 {
     let phase = fields::writer_field(area, p, Layout::WRITER_PHASE);
     match phase {

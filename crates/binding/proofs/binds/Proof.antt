@@ -20,7 +20,14 @@ same-length : tie.Need-same-length
 same-length c = search needs
 
 returns : tie.Need-returns
-returns c = search all-counted
+returns c =
+    let full = c .before in
+    let count = full .before in
+    let word = count .before in
+    let start = word .before .before .before in
+    let m = memory-of (start .args .p) (start .args .area .now) in
+    all-counted (start .args .p) (start .args .r) (start .args .area .now) m (start .pre .0 .sized .laid)
+    (word .current-word .ensures) (count .counter .ensures) (full .if1 .taken) (c .refusal .ensures)
 
 add-bound : tie.Need-add-bound
 add-bound c = search needs
@@ -64,8 +71,8 @@ returns-2 c =
     let word = count .before in
     let start = word .before .before .before in
     let m = memory-of (start .args .p) (start .args .area .now) in
-    bound (start .args .p) (start .args .r) (start .args .area .now) m (word .current-word .ensures)
-    (count .counter .ensures) (room .if1 .left) (index .index .ensures) (first .set-current .ensures)
+    bound (start .args .p) (start .args .r) (start .args .area .now) m (start .pre .0 .sized .laid)
+    (word .current-word .ensures) (count .counter .ensures) (room .if1 .left) (index .index .ensures) (first .set-current .ensures)
     (second .set-desk-field .ensures) (third .set-desk-field2 .ensures) (c .accepted .ensures)
 
 pub binds-spec : {M : Type 1} → statement M

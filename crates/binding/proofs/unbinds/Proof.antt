@@ -1,6 +1,5 @@
 -- `unbinds` meets its contract: the slot is the area's, and each way through has its law. Assumes nothing.
 use borrow.Author.Needs.{needs}
-use native.Mathlib.Omega.{arith}
 use Rattle.area.specs.Words.{memory-of}
 use Rattle.answer.proofs.Stored.{still-sized, bound-slot}
 use Rattle.binding.proofs.Binding.{all-gone, unbound}
@@ -28,8 +27,8 @@ returns c =
     let slot = gone .before in
     let start = slot .before .before .before in
     let m = memory-of (start .args .p) (start .args .area .now) in
-    all-gone (start .args .p) (start .args .r) (start .args .area .now) m (slot .desk-field .ensures)
-    (gone .slot-field .ensures) (omega (arith, full .if1 .taken)) (c .refusal .ensures)
+    all-gone (start .args .p) (start .args .r) (start .args .area .now) m (start .pre .0 .sized .laid)
+    (slot .desk-field .ensures) (gone .slot-field .ensures) (full .if1 .taken) (c .refusal .ensures)
 
 add-set-slot-field : tie.Need-add-set-slot-field
 add-set-slot-field c = search needs
@@ -61,8 +60,8 @@ returns-2 c =
     let slot = gone .before in
     let start = slot .before .before .before in
     let m = memory-of (start .args .p) (start .args .area .now) in
-    unbound (start .args .p) (start .args .r) (start .args .area .now) m (slot .desk-field .ensures)
-    (gone .slot-field .ensures) (room .if1 .left) (first .set-slot-field .ensures) (second .set-desk-field .ensures)
+    unbound (start .args .p) (start .args .r) (start .args .area .now) m (start .pre .0 .sized .laid)
+    (slot .desk-field .ensures) (gone .slot-field .ensures) (room .if1 .left) (first .set-slot-field .ensures) (second .set-desk-field .ensures)
     (c .accepted .ensures)
 
 pub unbinds-spec : {M : Type 1} → statement M

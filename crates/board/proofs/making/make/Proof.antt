@@ -1,6 +1,7 @@
 -- `making::make` meets its contract: the test comes first, and behind it the words are filled. Assumes nothing.
 use borrow.Author.Needs.{needs}
 use native.Mathlib.Omega.{arith}
+use Rattle.register.specs.Shape.{shape}
 use Rattle.board.proofs.Made.{made-refused, fits, made-sized, made-well}
 use Rattle.board.proofs.making.make.Statement.{statement}
 use Rattle.board.proofs.making.make.Tie as tie
@@ -14,12 +15,12 @@ refusal-requires c κs = search needs
 returns : tie.Need-returns
 returns c =
     let t = c .before .before in
-    made-refused _ _ _ _ _ (t .tested .ensures) (λ z. omega (arith, c .before .if1 .taken, z)) (c .refusal .ensures)
+    made-refused _ _ _ (t .tested .ensures) (λ z. omega (arith, c .before .if1 .taken, z)) (c .refusal .ensures)
 
 new-requires : tie.Need-new-requires
 new-requires c κs =
     let z = c .before .before .before .before .args in
-    let f = fits (z .form) (z .n) (z .c) (z .«record» .now) (z .area .now) in
+    let f = fits (shape (z .form) (z .n) (z .c)) (z .«record» .now) (z .area .now) in
     let t = f (c .before .tested .ensures) (c .if1 .left) .taken in (t .few-readers, t .few-words)
 
 fill-requires : tie.Need-fill-requires
@@ -27,8 +28,8 @@ fill-requires c κs =
     let b = c .before in
     let e = b .before in
     let z = e .before .before .before .before .args in
-    made-sized (z .form) (z .n) (z .c) (z .«record» .now) (z .area .now) (e .before .tested .ensures) (e .if1 .left)
-    (b .new .ensures)
+    made-sized (shape (z .form) (z .n) (z .c)) (z .«record» .now) (z .area .now) (e .before .tested .ensures)
+    (e .if1 .left) (b .new .ensures)
 
 accepted-requires : tie.Need-accepted-requires
 accepted-requires c κs = search needs
@@ -41,7 +42,7 @@ returns-2 c =
     let f = c .before .before .before in
     let b = f .before .before in
     let e = b .before in
-    made-well _ _ _ _ _ (e .before .tested .ensures) (e .if1 .left) (b .new .ensures) (c .accepted .ensures)
+    made-well _ _ _ (e .before .tested .ensures) (e .if1 .left) (b .new .ensures) (c .accepted .ensures)
     (f .fill .ensures)
 
 pub make-spec : {M : Type 1} → statement M

@@ -1,6 +1,6 @@
 -- `sound::desk_sound` meets its contract: its tests are those of the desk. Assumes nothing.
 use borrow.Author.Needs.{needs}
-use Rattle.area.specs.Words.{memory-of}
+use Rattle.area.specs.Words.{its-shape, memory-of}
 use Rattle.testing.proofs.MemoryTest.{desk-by}
 use Rattle.testing.proofs.sound.desk_sound.Statement.{statement}
 use Rattle.testing.proofs.sound.desk_sound.Tie as tie
@@ -27,7 +27,7 @@ returns : tie.Need-returns
 returns c =
     let d = c .before .before .before .before in
     let b = d .before .before .args in
-    desk-by (b .p .n) (b .p .c) (memory-of (b .p) (b .area .now)) (b .r)
+    desk-by (its-shape (b .p)) (memory-of (b .p) (b .area .now)) (b .r)
     (d .desk-field .ensures) (c .before .before .before .desk-field2 .ensures)
     (c .before .before .desk-field3 .ensures) (c .before .desk-field4 .ensures) (c .desk-field5 .ensures)
 

@@ -1,6 +1,7 @@
 -- `sound::slot_sound` meets its contract: its tests are those of the slot. Assumes nothing.
 use borrow.Author.Needs.{needs}
-use Rattle.area.specs.Words.{memory-of}
+use Rattle.area.specs.Words.{its-shape, memory-of}
+use Rattle.area.proofs.Sizes.{limit-is}
 use Rattle.testing.proofs.MemoryTest.{slot-by}
 use Rattle.testing.proofs.sound.slot_sound.Statement.{statement}
 use Rattle.testing.proofs.sound.slot_sound.Tie as tie
@@ -16,8 +17,9 @@ slot-field-requires-3 c κs = search needs
 
 returns : tie.Need-returns
 returns c =
-    let b = c .before .before .before .before .args in
-    slot-by (b .p .n) (b .p .c) (memory-of (b .p) (b .area .now)) (b .s)
+    let b = c .before .before .before .before in
+    let p = b .args .p in
+    slot-by (its-shape p) (memory-of p (b .args .area .now)) (b .args .s) (limit-is (b .pre .0 .laid))
     (c .before .before .slot-field .ensures) (c .before .slot-field2 .ensures) (c .slot-field3 .ensures)
 
 pub slot-sound-spec : {M : Type 1} → statement M

@@ -8,7 +8,7 @@ use Prim.Native.Nat.{ℕ, _+_, _-_}
 use Rattle.theory.specs.Lists.{every}
 use Rattle.register.specs.Area.{slot-sound}
 use Rattle.area.specs.declared.Layout.{Layout}
-use Rattle.area.specs.Words.{memory-of}
+use Rattle.area.specs.Words.{its-shape, memory-of}
 use Rattle.area.proofs.Asked.{was-no, was-yes}
 use Rattle.testing.proofs.Runs.{whole-left, none-left, one-fails, one-passes}
 use Rattle.testing.proofs.sound.slots_sound.Statement.{statement}
@@ -16,7 +16,7 @@ use Rattle.testing.proofs.sound.slots_sound.Tie as tie
 
 -- the test of one
 abbrev test : Layout → List ℕ → ℕ → Bool
-test p area = slot-sound (p .n) (p .c) (memory-of p area)
+test p area = slot-sound (its-shape p) (memory-of p area)
 
 abbrev Inv-loop : tie.InvT-loop
 Inv-loop area p slots s₀ s = every (slots - s) s (test p area) ≡ every slots 0 (test p area)

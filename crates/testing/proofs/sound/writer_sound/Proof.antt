@@ -2,7 +2,7 @@
 use borrow.Author.Needs.{needs}
 use mathlib.Core.Path.{ap, _∙_}
 use Rattle.register.specs.Area.{word-sound}
-use Rattle.area.specs.Words.{memory-of}
+use Rattle.area.specs.Words.{its-shape, memory-of}
 use Rattle.testing.proofs.MemoryTest.{writer-by}
 use Rattle.testing.proofs.sound.writer_sound.Statement.{statement}
 use Rattle.testing.proofs.sound.writer_sound.Tie as tie
@@ -39,10 +39,10 @@ returns c =
     let l = c .before .before .before in
     let d = l .before .before .before .before in
     let b = d .before .before .args in
-    writer-by (b .p .n) (b .p .c) (memory-of (b .p) (b .area .now))
+    writer-by (its-shape (b .p)) (memory-of (b .p) (b .area .now))
     (d .writer-field .ensures) (l .before .before .before .writer-field2 .ensures)
     (l .before .before .writer-field3 .ensures) (l .before .writer-field4 .ensures) (l .writer-field5 .ensures)
-    (c .before .word-sound .ensures ∙ ap (word-sound (b .p .n)) (c .before .before .writer-field6 .ensures))
+    (c .before .word-sound .ensures ∙ ap (word-sound (its-shape (b .p))) (c .before .before .writer-field6 .ensures))
     (c .writer-field7 .ensures)
 
 pub writer-sound-spec : {M : Type 1} → statement M
