@@ -7,7 +7,7 @@ use Prim.Native.Nat.{ℕ, suc, _≤_}
 use lib.Dec.{eqb, ltb}
 use lib.ListN.{length}
 use Rattle.theory.specs.Place.{Record}
-use Rattle.register.specs.Area.{readers, memory, desk-write-number, writer-phase}
+use Rattle.register.specs.Area.{shape-of, readers, memory, desk-write-number, writer-phase}
 use Rattle.register.specs.Steps.{Move, read, write, step, mover}
 use Rattle.register.specs.Calls.{answered, stepped, is-own, shown}
 use Rattle.theory.specs.History.{Read, Write}
@@ -96,7 +96,7 @@ told-of test tell (m ∷ past) =
 -- a read that ends with a move: its reader, its begin, this move, its own steps, what showing then gives
 abbrev pub read-told : List ℕ → Move → List Moment → Read
 read-told a x past =
-    let p = mover (readers a) x in
+    let p = mover (shape-of a) x in
     record {
       reader = p;
       begin = begun-at p past;
@@ -164,7 +164,7 @@ pub record Complete (u : Run) : Type 0 where
   -- of operations under way: their begins, their own steps, the looks and the record of the write
   pub now-began : (p : ℕ) → told u .began p ≡ begun-at p (moves-of u)
   pub now-steps : (p : ℕ) → told u .steps p ≡ since p (steps p) (moves-of u)
-  pub now-looks : told u .looks ≡ since (u .n) (leaves-phase 1) (moves-of u)
+  pub now-looks : told u .looks ≡ since (u .shape .n) (leaves-phase 1) (moves-of u)
   pub now-given : told u .given ≡ handed (moves-of u)
 
 abbrev pub LeavesNothingOut : Type 0

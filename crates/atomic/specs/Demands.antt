@@ -8,16 +8,13 @@ use Prim.Native.Nat.{ℕ, suc, _+_, _≤_, _<_}
 use lib.Dec.{eqb, ltb, leb}
 use lib.ListN.{length, getD}
 use Rattle.theory.specs.Lists.{Each}
-use Rattle.theory.specs.Table.{Untouched}
+use Rattle.theory.specs.Table.{Untouched, has}
 use Rattle.theory.specs.Place.{Record, Store}
-use Rattle.theory.specs.Table.{has}
-use Rattle.register.specs.Area.{phase, len, desk-write-number, writer-phase, writer-len, writes-ended}
-use Rattle.register.specs.Area.{most-writes}
-use Rattle.register.specs.Area.{readers, capacity, is-area, memory, undamaged}
-use Rattle.register.specs.Shape.{table}
+use Rattle.register.specs.Area.{phase, len, desk-write-number, writer-phase, writer-len, writes-ended, most-writes}
+use Rattle.register.specs.Area.{shape-of, readers, is-area, memory, undamaged}
+use Rattle.register.specs.Shape.{table, Shape}
 use Rattle.register.specs.Steps.{accept, Move, mover, plan}
-use Rattle.register.specs.Calls.{Answer, made, answered, read-begun, write-begun, stepped, shown}
-use Rattle.register.specs.Calls.{after}
+use Rattle.register.specs.Calls.{Answer, made, answered, read-begun, write-begun, stepped, shown, after}
 use Rattle.register.specs.Conditions.{word}
 use Rattle.register.specs.Stands.{desk, writer}
 use Rattle.atomic.specs.Seen.{Accepted, history}
@@ -28,18 +25,16 @@ use Rattle.theory.specs.Line.{Line}
 
 -- an area that was made, and changed since then only by accepted begins and steps, in any order
 pub record Run : Type 0 where
-  pub form : ℕ
-  pub n : ℕ
-  pub c : ℕ
+  pub shape : Shape
   pub first : Record
   pub slice : List ℕ
   pub moves : List Move
-  pub made-well : made form n c first slice .number ≡ 0
-  pub accepted : Accepted (made form n c first slice .area) moves
+  pub made-well : made shape first slice .number ≡ 0
+  pub accepted : Accepted (made shape first slice .area) moves
 
 module _ (u : Run) where
   abbrev pub beginning : List ℕ
-  beginning = made (u .form) (u .n) (u .c) (u .first) (u .slice) .area
+  beginning = made (u .shape) (u .first) (u .slice) .area
 
   abbrev pub now : List ℕ
   now = after beginning (u .moves)
@@ -73,22 +68,22 @@ pub record Promise (n : ℕ) (first : Record) (all-moves : ℕ) (h : History) : 
   pub ages : Each (λ x. x .gets .age ≡ later-published (x .gets .number) (x .end) (h .writes)) (h .reads)
 
 abbrev pub Demand3 : Type 0
-Demand3 = (u : Run) → Promise (u .n) (u .first) (length (u .moves)) (told u)
+Demand3 = (u : Run) → Promise (u .shape .n) (u .first) (length (u .moves)) (told u)
 
 -- ---- it ends
 
 -- A call is refused for who asks, who is busy, a record too long or no write number left, and for nothing else: a busy
 -- process's step and an idle process's begin are never refused, and 1, 2 and 8 are never met
-pub record NeverStuck (n c : ℕ) (a : List ℕ) : Type 0 where
-  pub reads : (r : ℕ) → read-begun a r .number ≡ cond (ltb r n) (cond (eqb (memory a (phase r)) 0) 0 5) 3
+pub record NeverStuck (k : Shape) (a : List ℕ) : Type 0 where
+  pub reads : (r : ℕ) → read-begun a r .number ≡ cond (ltb r (k .n)) (cond (eqb (memory a (phase r)) 0) 0 5) 3
   pub writes : (v : Record)
       → write-begun a v .number
-      ≡ cond (leb (length v) c)
+      ≡ cond (leb (length v) (k .c))
       (cond (eqb (memory a writer-phase) 0) (cond (ltb (memory a writes-ended) most-writes) 0 7) 5) 4
   pub steps : (p : ℕ)
       → stepped a p .number
-      ≡ cond (ltb p n) (cond (eqb (memory a (phase p)) 0) 6 0)
-      (cond (eqb p n) (cond (eqb (memory a writer-phase) 0) 6 0) 3)
+      ≡ cond (ltb p (k .n)) (cond (eqb (memory a (phase p)) 0) 6 0)
+      (cond (eqb p (k .n)) (cond (eqb (memory a writer-phase) 0) 6 0) 3)
 
 -- the record of write number k: the starting record is number 0, and the newest of a list of writes has the list's
 -- length for its number
@@ -114,7 +109,7 @@ pub record UnderWay (n : ℕ) (first : Record) (a : List ℕ) (h : History) : Ty
 -- together: the next step of a busy process is accepted, and whoever is busy has made fewer steps than its bound; so
 -- each operation ends within its bound
 abbrev pub Ends : Type 0
-Ends = (u : Run) → NeverStuck (u .n) (u .c) (now u) × UnderWay (u .n) (u .first) (now u) (told u)
+Ends = (u : Run) → NeverStuck (u .shape) (now u) × UnderWay (u .shape .n) (u .first) (now u) (told u)
 
 -- ---- what any call keeps, on any words
 
@@ -138,16 +133,16 @@ pub record Intact (a : List ℕ) (x : Move) : Type 0 where
   pub size : length (answered a x .area) ≡ length a
   pub head : (i : ℕ) → i < 7 → getD (answered a x .area) i 0 ≡ getD a i 0
   -- it stores to places of the area alone, and words that it does not name keep their value
-  pub inside : (stores : List Store) (ends : Bool) → plan (readers a) (capacity a) (memory a) x ≡ accept stores ends
-      → Each (λ s. has (table a) (s .place) ≡ true) stores
-  pub others : (stores : List Store) (ends : Bool) → plan (readers a) (capacity a) (memory a) x ≡ accept stores ends
-      → (i : ℕ) → Untouched (table a) i stores → getD (answered a x .area) i 0 ≡ getD a i 0
+  pub inside : (stores : List Store) (ends : Bool) → plan (shape-of a) (memory a) x ≡ accept stores ends
+      → Each (λ s. has (table (shape-of a)) (s .place) ≡ true) stores
+  pub others : (stores : List Store) (ends : Bool) → plan (shape-of a) (memory a) x ≡ accept stores ends
+      → (i : ℕ) → Untouched (table (shape-of a)) i stores → getD (answered a x .area) i 0 ≡ getD a i 0
   -- its process is in an operation from the begin to the answer "ended"; no other process is moved
-  pub its-own : busy (answered a x .area) (mover (readers a) x) ≡ not (answered a x .ended)
-  pub of-others : (p : ℕ) → p ≤ readers a → p ≢ mover (readers a) x
+  pub its-own : busy (answered a x .area) (mover (shape-of a) x) ≡ not (answered a x .ended)
+  pub of-others : (p : ℕ) → p ≤ readers a → p ≢ mover (shape-of a) x
       → busy (answered a x .area) p ≡ busy a p
   -- and what showing gives of another reader stays
-  pub shows : (r : ℕ) (default : Record) → r < readers a → r ≢ mover (readers a) x
+  pub shows : (r : ℕ) (default : Record) → r < readers a → r ≢ mover (shape-of a) x
       → shown (answered a x .area) r default ≡ shown a r default
 
 abbrev pub Keeps : Type 0
@@ -177,7 +172,6 @@ Ages = (a : List ℕ) (r : ℕ) → r < word a 1 → stepped a r .ended ≡ true
 
 -- when it is accepted, and which number it answers where it is not, is a part of `Numbers`
 pub record Makes : Type 0 where
-  pub sound : (form n c : ℕ) (v : Record) (a : List ℕ) → made form n c v a .number ≡ 0
-      → (is-area (made form n c v a .area) ≡ true) × (undamaged (made form n c v a .area) ≡ true)
-  pub refused : (form n c : ℕ) (v : Record) (a : List ℕ) → made form n c v a .number ≢ 0
-      → Refused a (made form n c v a)
+  pub sound : (k : Shape) (v : Record) (a : List ℕ) → made k v a .number ≡ 0
+      → (is-area (made k v a .area) ≡ true) × (undamaged (made k v a .area) ≡ true)
+  pub refused : (k : Shape) (v : Record) (a : List ℕ) → made k v a .number ≢ 0 → Refused a (made k v a)

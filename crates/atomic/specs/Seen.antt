@@ -6,8 +6,8 @@ use mathlib.Core.List.{List, [], _∷_}
 use Prim.Native.Nat.{ℕ}
 use lib.Dec.{eqb, ltb}
 use lib.ListN.{length}
-use Rattle.theory.specs.History.{Got, Deed, Event, read-began, write-began, went-on, looked, published}
-use Rattle.theory.specs.History.{read-ended, write-ended, History, all-noted, nothing-yet}
+use Rattle.theory.specs.History.{Got, Deed, Event, read-began, write-began, went-on, looked, published, read-ended}
+use Rattle.theory.specs.History.{write-ended, History, all-noted, nothing-yet}
 use Rattle.register.specs.Area.{readers, memory, phase, desk-write-number, writer-phase}
 use Rattle.register.specs.Steps.{Move, read, write, step}
 use Rattle.register.specs.Calls.{Answer, answered, stepped, is-own, shown}

@@ -8,23 +8,24 @@ use native.Mathlib.Omega.{arith}
 use lib.ListN.{length, take}
 use lib.Seq.{length-take-le}
 use Rattle.theory.specs.Table.{total}
-use Rattle.register.specs.Area.{form1}
+use Rattle.register.specs.Shape.{shape, table}
 use Rattle.area.specs.Words.{layout-of}
 use Rattle.area.specs.declared.Layout.{Layout}
 use Rattle.runfile.specs.RunFile.{readers, capacity, is-run-file}
 use Rattle.runfile.specs.Code.{header-of}
 use Rattle.runfile.specs.declared.types.Header.{Header}
 use Rattle.runfile.proofs.Files.{file-facts}
+use Rattle.playing.specs.Play.{run-shape}
 use Rattle.bench.specs.Sizes.{area-words}
 
 -- the largest area of a run: N = 8 and C = 32
-room-for-all : (n c : ℕ) → n ≤ 8 → c ≤ 32 → total (form1 n c) ≤ area-words
-room-for-all n c few short =
-    let more : n + 2 ≤ 10 = omega arith in
-    let slot : 4 + c ≤ 36 = omega arith in
-    let desk : 6 + c ≤ 38 = omega arith in
-    let slots : (n + 2) * (4 + c) ≤ 10 * 36 = mul-le-mul more slot in
-    let desks : n * (6 + c) ≤ 8 * 38 = mul-le-mul few desk in
+room-for-all : (b : List ℕ) → readers b ≤ 8 → capacity b ≤ 32 → total (table (run-shape b)) ≤ area-words
+room-for-all b few short =
+    let more : readers b + 2 ≤ 10 = omega arith in
+    let slot : 4 + capacity b ≤ 36 = omega arith in
+    let desk : 6 + capacity b ≤ 38 = omega arith in
+    let slots : (readers b + 2) * (4 + capacity b) ≤ 10 * 36 = mul-le-mul more slot in
+    let desks : readers b * (6 + capacity b) ≤ 8 * 38 = mul-le-mul few desk in
     omega arith
 
 module _ (b : List ℕ) (e : is-run-file b ≡ true) (h : Header) (head : h ≡ header-of b) where
@@ -33,19 +34,19 @@ module _ (b : List ℕ) (e : is-run-file b ≡ true) (h : Header) (head : h ≡ 
       let facts = file-facts b e in
       (omega (arith, ap (λ z. z .n) head, facts .few-readers), omega (arith, ap (λ z. z .c) head, facts .few-words))
 
-  module _ (p : Layout) (laid : p ≡ layout-of (h .n) (h .c)) (space : List ℕ)
+  module _ (p : Layout) (laid : p ≡ layout-of (shape 1 (h .n) (h .c))) (space : List ℕ)
       (enough : area-words ≤ length space) where
-    its-total : p .total ≡ total (form1 (readers b) (capacity b))
-    its-total = ap (λ z. z .total) laid ∙ ap (λ z. total (form1 (z .n) (z .c))) head
+    its-total : p .total ≡ total (table (run-shape b))
+    its-total = ap (λ z. z .total) laid ∙ ap (λ z. total (table (shape 1 (z .n) (z .c)))) head
 
     pub inside : p .total ≤ length space
     inside =
         let facts = file-facts b e in
         le-trans (subst (λ k. k ≤ area-words) (sym its-total)
-        (room-for-all (readers b) (capacity b) (facts .few-readers) (facts .few-words))) enough
+        (room-for-all b (facts .few-readers) (facts .few-words))) enough
 
     pub front-exact : p .total ≡ length (take (p .total) space)
     front-exact = sym (length-take-le (p .total) space inside)
 
-    pub front-total : length (take (p .total) space) ≡ total (form1 (readers b) (capacity b))
+    pub front-total : length (take (p .total) space) ≡ total (table (run-shape b))
     front-total = sym front-exact ∙ its-total

@@ -19,7 +19,7 @@ ghost use Prim.Native.Nat.{_≤_};
 ghost use lib.ListN.{length, take};
 ghost use Rattle.io.specs.Counts.{Counts};
 ghost use Rattle.theory.specs.Table.{total};
-ghost use Rattle.register.specs.Area.{form1};
+ghost use Rattle.register.specs.Shape.{table};
 ghost use Rattle.runfile.specs.RunFile.{readers, capacity, starting-length, is-run-file};
 ghost use Rattle.runfile.specs.RunFile.{moves as RunFile·moves};
 ghost use Rattle.text.specs.Sheet.{sheet, put};
@@ -62,14 +62,14 @@ fn put_run_in(file: &[u8], space: &mut [u64], out: &mut [u8]) -> usize
         ≡ put (sheet (now (out .entry)) 0) (run-text (now (file .entry))) ⌝ }
 {
     let h = file::header(file);
-    let p = Layout::new(h.n as usize, h.c as usize);
+    let p = Layout::new(1, h.n as usize, h.c as usize);
     put_run(file, &mut space[..p.total], out)
 }
 
 // The text of a run, on words that are as many as its area has.
 fn put_run(file: &[u8], area: &mut [u64], out: &mut [u8]) -> usize
     requires { ⌜ is-run-file (now file) ≡ true ⌝ }
-    requires { ⌜ length (now area) ≡ total (form1 (readers (now file)) (capacity (now file))) ⌝ }
+    requires { ⌜ length (now area) ≡ total (table (run-shape (now file))) ⌝ }
     ensures { λ r. ⌜ sheet (now (out .exit)) r
         ≡ put (sheet (now (out .entry)) 0) (run-text (now (file .entry))) ⌝ }
 {

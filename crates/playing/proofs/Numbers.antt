@@ -18,14 +18,14 @@ use Rattle.runfile.specs.RunFile.{readers, capacity, values, values-at, startin
 use Rattle.runfile.specs.RunFile.{values-for, move, asked}
 use Rattle.runfile.specs.Conditions.{Malformed, another-kind, length-of-step, length-of-read}
 use Rattle.runfile.proofs.Conditions.{file-is, asks-nothing, asks-for}
-use Rattle.playing.specs.Play.{State, answer-of, begun, played}
+use Rattle.playing.specs.Play.{State, run-shape, answer-of, begun, played}
 use Rattle.playing.specs.Numbers.{begin-rows, TooMany, move-rows, RunNumbers}
 
 begin-number : (b a : List ℕ) (k : ℕ) → (begun b a .number ≡ k) ↔ Given (begin-rows b a) k
 unfolding begun
 begin-number b a k =
     row (λ x. x .number) (is-run-file b) _ (refused 11 a) (unless-not (is-run-file b) (file-is b))
-    (numbers .making 1 (readers b) (capacity b) (starting-record b) a k)
+    (numbers .making (run-shape b) (starting-record b) a k)
 
 malformed-or-not : (n : ℕ) (w : Written) → Dec (Malformed n w)
 malformed-or-not n w =

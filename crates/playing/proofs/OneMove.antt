@@ -9,7 +9,7 @@ use borrow.Author.Tests.{leb-true, leb-false, le-leb, lt-leb}
 use lib.Dec.{T, eqb, leb}
 use lib.ListN.{length, take, replicate}
 use Rattle.theory.specs.Place.{Record}
-use Rattle.register.specs.Area.{is-area, capacity}
+use Rattle.register.specs.Area.{is-area, shape-of}
 use Rattle.register.specs.Steps.{Move, write}
 use Rattle.register.specs.Calls.{Answer, answered}
 use Rattle.register.proofs.Facts.{area-facts}
@@ -73,7 +73,7 @@ too-long a u v long-u long-v = go (is-area a) refl
     go : (t : Bool) → is-area a ≡ t → answered a (write u) ≡ answered a (write v)
     go true e =
         let few = area-facts a e .range .few-words in
-        rw (lt-leb (length u) (capacity a) (omega arith), lt-leb (length v) (capacity a) (omega arith))
+        rw (lt-leb (length u) (shape-of a .c) (omega arith), lt-leb (length v) (shape-of a .c) (omega arith))
     go false e = rw e
 
 -- so of a longer one the first words up to that one are enough

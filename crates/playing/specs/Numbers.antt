@@ -8,13 +8,13 @@ use Prim.Native.Nat.{ℕ, _+_, _*_, _<_}
 use lib.Dec.{eqb}
 use Rattle.register.specs.Numbers.{Row, _if_, Given, make-rows, read-rows, write-rows, step-rows}
 use Rattle.runfile.specs.Bytes.{words-at}
-use Rattle.runfile.specs.RunFile.{readers, capacity, values, values-at, starting-record, Written}
+use Rattle.runfile.specs.RunFile.{readers, values, values-at, starting-record, Written}
 use Rattle.runfile.specs.Conditions.{FileFacts, Malformed}
-use Rattle.playing.specs.Play.{State, begun, played}
+use Rattle.playing.specs.Play.{State, run-shape, begun, played}
 
 -- the begin of a run: 11, then making's own
 abbrev pub begin-rows : List ℕ → List ℕ → List Row
-begin-rows b a = 11 if (¬ FileFacts b) ∷ make-rows 1 (readers b) (capacity b) (starting-record b) a
+begin-rows b a = 11 if (¬ FileFacts b) ∷ make-rows (run-shape b) (starting-record b) a
 
 module _ (b : List ℕ) (s : State) (w : Written) where
   -- a begin of process N that wants more values than are left

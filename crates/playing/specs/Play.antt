@@ -3,6 +3,7 @@ use mathlib.Core.Bool.{cond}
 use mathlib.Core.List.{List, [], _∷_, _++_}
 use Prim.Native.Nat.{ℕ, zero, suc, _+_, _*_}
 use lib.Dec.{eqb, leb}
+use Rattle.register.specs.Shape.{Shape, shape}
 use Rattle.register.specs.Steps.{Move, write}
 use Rattle.register.specs.Calls.{Answer, refused, fresh, made, answered}
 use Rattle.runfile.specs.Bytes.{words-at}
@@ -62,13 +63,17 @@ abbrev pub tally-of : Tally → List Answer → Tally
 tally-of t [] = t
 tally-of t (x ∷ l) = tally-of (counted t (x .number) (x .age)) l
 
+-- a run file's area is of form 1
+abbrev pub run-shape : List ℕ → Shape
+run-shape b = shape 1 (readers b) (capacity b)
+
 -- 11 for what is no run file, then making's own answer
 unfoldable pub begun : List ℕ → List ℕ → Answer
-begun b a = cond (is-run-file b) (made 1 (readers b) (capacity b) (starting-record b) a) (refused 11 a)
+begun b a = cond (is-run-file b) (made (run-shape b) (starting-record b) a) (refused 11 a)
 
 -- a fresh area with the starting record, whose values are used up
 abbrev pub first-state : List ℕ → State
-first-state b = record { area = fresh (readers b) (capacity b) (starting-record b); used = starting-length b }
+first-state b = record { area = fresh (run-shape b) (starting-record b); used = starting-length b }
 
 abbrev pub run-answers : List ℕ → List Answer
 run-answers b = answers b (moves b) 0 (first-state b)
