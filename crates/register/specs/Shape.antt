@@ -5,7 +5,7 @@ use mathlib.Core.List.{List, [], _∷_}
 use Prim.Native.Nat.{ℕ, zero, suc, _+_}
 use lib.Dec.{eqb, leb}
 use Rattle.theory.specs.Lists.{all}
-use Rattle.theory.specs.Table.{Table, singles, base}
+use Rattle.theory.specs.Table.{Table, base}
 
 -- a form, n readers, records of at most c words
 pub record Shape : Type 0 where
@@ -28,12 +28,12 @@ module _ (k : Shape) where
   rows (suc (suc zero)) = k .n
   rows (suc (suc (suc g))) = 1
 
-  -- the words of each field of a row
+  -- how many words each field of a row has, in the order in which `Area` names them
   abbrev pub fields : ℕ → List ℕ
-  fields zero = singles 8 []
-  fields (suc zero) = singles 4 (k .c ∷ [])
-  fields (suc (suc zero)) = singles 6 (k .c ∷ [])
-  fields (suc (suc (suc g))) = singles 7 (k .c ∷ [])
+  fields zero = 1 ∷ 1 ∷ 1 ∷ 1 ∷ 1 ∷ 1 ∷ 1 ∷ 1 ∷ []
+  fields (suc zero) = 1 ∷ 1 ∷ 1 ∷ 1 ∷ k .c ∷ []
+  fields (suc (suc zero)) = 1 ∷ 1 ∷ 1 ∷ 1 ∷ 1 ∷ 1 ∷ k .c ∷ []
+  fields (suc (suc (suc g))) = 1 ∷ 1 ∷ 1 ∷ 1 ∷ 1 ∷ 1 ∷ 1 ∷ k .c ∷ []
 
   abbrev pub table : Table
   table = record { parts = 4; rows = rows; fields = fields }

@@ -7,7 +7,7 @@ use mathlib.Core.Bool.{Bool, true, false}
 use mathlib.Core.List.{List, [], _∷_, map}
 use Prim.Native.Nat.{ℕ, zero, suc}
 use Rattle.theory.specs.Place.{Place}
-use Rattle.theory.specs.Table.{Table, singles, total, address, has}
+use Rattle.theory.specs.Table.{Table, total, address, has}
 use Rattle.theory.specs.History.{Got, Deed, Event, read-began, write-began, went-on, looked, published}
 use Rattle.theory.specs.History.{read-ended, write-ended, Read, Write, History, all-noted, nothing-yet}
 
@@ -58,8 +58,8 @@ rows zero = 1
 rows (suc g) = 2
 
 abbrev fields : ℕ → List ℕ
-fields zero = singles 1 []
-fields (suc g) = singles 1 (0 ∷ 2 ∷ [])
+fields zero = 1 ∷ []
+fields (suc g) = 1 ∷ 0 ∷ 2 ∷ []
 
 abbrev small : Table
 small = record { parts = 2; rows = rows; fields = fields }

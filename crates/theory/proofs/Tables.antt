@@ -23,7 +23,7 @@ use lib.ListN.{length, getD, set, length-set, take}
 use lib.Seq.{getD-set-same, getD-set-other, drop-cons}
 use borrow.Author.Tests.{lt-ltb}
 use Rattle.theory.specs.Place.{Place, changed, Store, apply}
-use Rattle.theory.specs.Table.{Table, singles, field-at, words, offset, width, base, total, address, has, view, store}
+use Rattle.theory.specs.Table.{Table, field-at, words, offset, width, base, total, address, has, view, store}
 use Rattle.theory.specs.Table.{Untouched}
 use Rattle.theory.specs.Lists.{words-from, Each, also}
 use Rattle.theory.proofs.Tests.{both, true-passes}
@@ -64,6 +64,10 @@ fields-grow i l f (suc h) k = go (fields-grow i l f h) (ℕ-discrete f (suc h))
     go rest (no d) = omega (arith, rest (omega arith), next-field i l h)
 
 -- ---- fields of one word each, in front of any others
+
+abbrev singles : ℕ → List ℕ → List ℕ
+singles zero l = l
+singles (suc j) l = 1 ∷ singles j l
 
 single-at : (i j : ℕ) (l : List ℕ) (f : ℕ) → f ≤ j → field-at i (singles j l) f ≡ i + f
 single-at i j l zero h = omega arith

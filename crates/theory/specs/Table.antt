@@ -16,11 +16,6 @@ pub record Table : Type 0 where
   pub rows : ℕ → ℕ
   pub fields : ℕ → List ℕ
 
--- j fields of one word each, in front of others
-abbrev pub singles : ℕ → List ℕ → List ℕ
-singles zero l = l
-singles (suc j) l = 1 ∷ singles j l
-
 -- where field f of a row stands, if its first stands at i
 abbrev pub field-at : ℕ → List ℕ → ℕ → ℕ
 field-at i l zero = i
