@@ -36,26 +36,26 @@ module _ (k : Shape) where
   -- fields of one word each: the header's, and those of a slot, of a reader's desk and of the writer's desk before its
   -- field of many words
   header-one : (f : ℕ) → f < 8 → words (table k) 0 f ≡ 1
-  header-one = single-words (table k) 0 8 [] refl
+  header-one = single-words (table k) 0 8 _ refl
 
   slot-one : (f : ℕ) → f < 4 → words (table k) 1 f ≡ 1
-  slot-one = single-words (table k) 1 4 (k .c ∷ []) refl
+  slot-one = single-words (table k) 1 4 _ refl
 
   desk-one : (f : ℕ) → f < 6 → words (table k) 2 f ≡ 1
-  desk-one = single-words (table k) 2 6 (k .c ∷ []) refl
+  desk-one = single-words (table k) 2 6 _ refl
 
   writer-one : (f : ℕ) → f < 7 → words (table k) 3 f ≡ 1
-  writer-one = single-words (table k) 3 7 (k .c ∷ []) refl
+  writer-one = single-words (table k) 3 7 _ refl
 
   -- and where they stand
   pub slot-offset : (f : ℕ) → f ≤ 4 → offset (table k) 1 f ≡ f
-  slot-offset = single-offset (table k) 1 4 (k .c ∷ []) refl
+  slot-offset = single-offset (table k) 1 4 _ refl
 
   pub desk-offset : (f : ℕ) → f ≤ 6 → offset (table k) 2 f ≡ f
-  desk-offset = single-offset (table k) 2 6 (k .c ∷ []) refl
+  desk-offset = single-offset (table k) 2 6 _ refl
 
   pub writer-offset : (f : ℕ) → f ≤ 7 → offset (table k) 3 f ≡ f
-  writer-offset = single-offset (table k) 3 7 (k .c ∷ []) refl
+  writer-offset = single-offset (table k) 3 7 _ refl
 
   pub has-header : (i : ℕ) → i < 8 → Has (table k) (header i)
   has-header i l = record { part = omega arith; row = omega arith; column = omega (arith, header-one i l) }

@@ -1,5 +1,5 @@
 -- The tests of document 01 as facts, both ways: what passes is what `Conditions` says.
---     range-is, area-is, undamaged-is, own-is    a test passes exactly if its facts hold
+--     known-is, range-is, area-is, undamaged-is, own-is    a test passes exactly if its facts hold
 --     area-facts, whole-area, sound-area         the same one way, as it is mostly used
 --     its-plan, every-call, number-of            the plan of a call, which every form has, and the number that it gives
 -- Assumes nothing.
@@ -11,12 +11,13 @@ use Prim.Native.Nat.{ℕ}
 use native.Mathlib.Omega.{arith}
 use lib.Dec.{T, eqb, eqb→eq, leb→le, le→leb, ltb→lt, lt→ltb}
 use lib.ListN.{length}
-use borrow.Author.Tests.{eq-eqb}
+use borrow.Author.Tests.{eq-eqb, eqb-true}
 use Rattle.theory.specs.Table.{total}
-use Rattle.register.specs.Shape.{Shape, slots-at, desks-at, writer-at, range-tests, in-range, table}
+use Rattle.register.specs.Shape.{Shape, known-form, slots-at, desks-at, writer-at, range-tests, in-range}
+use Rattle.register.specs.Shape.{table}
 use Rattle.register.specs.Area.{shape-of, area-tests, is-area, undamaged, memory, memory-tests}
 use Rattle.theory.specs.Lists.{all, Each, none, also}
-use Rattle.register.specs.Conditions.{InRange, word, AnArea, Undamaged, Whole}
+use Rattle.register.specs.Conditions.{KnownForm, InRange, word, AnArea, Undamaged, Whole}
 use Rattle.register.specs.Calls.{own-tests, is-own}
 use Rattle.register.specs.Numbers.{writer, OwnToShow}
 use Rattle.theory.proofs.Tests.{passed, true-passes, each-passes, all-pass}
@@ -24,6 +25,9 @@ use Rattle.register.specs.Steps.{Plan, refuse, accept, Move, read, write
 use Rattle.register.proofs.Whole.{whole-of, of-whole}
 
 -- ---- test 1 as facts
+
+pub known-is : (form : ℕ) → (known-form form ≡ true) ↔ KnownForm form
+known-is form = (eqb-true form 1, eq-eqb form 1)
 
 pub range-facts : (k : Shape) → T (in-range k) → InRange k
 range-facts k t = go (each-passes (range-tests k) t)
@@ -89,7 +93,7 @@ area-is a =
         let length-is : length a ≡ total (table (shape-of a)) = eqb→eq _ _ l in
         record {
           eight = leb→le _ _ x;
-          form = eqb→eq _ _ f;
+          form = known-is (word a 0) .0 (passed _ f);
           range = range-facts (shape-of a) r;
           total = omega (arith, total-is);
           slots = omega (arith, slots-are);
@@ -109,7 +113,7 @@ area-is a =
         let writer-is : word a 6 ≡ writer-at (shape-of a) = omega (arith, v .writer) in
         let length-is : length a ≡ total (table (shape-of a)) = omega (arith, v .exact) in
         also (le→leb _ _ (v .eight))
-        (also (same _ _ (v .form))
+        (also (true-passes _ (known-is (word a 0) .1 (v .form)))
         (also (true-passes _ (range-is (shape-of a) .1 (v .range)))
         (also (same _ _ total-is)
         (also (same _ _ slots-are)

@@ -8,25 +8,24 @@ use mathlib.Core.List.{List, [], _∷_}
 use Prim.Native.Nat.{ℕ, suc, _≤_, _<_}
 use native.Mathlib.Decide.{ℕ-discrete}
 use native.Mathlib.Omega.{arith}
-use lib.Dec.{eqb, leb, ltb, eqb→eq}
+use lib.Dec.{eqb, leb, ltb}
 use lib.ListN.{length}
-use borrow.Author.Tests.{eqb-false}
 use Rattle.theory.specs.Place.{Record, Memory}
 use Rattle.theory.specs.Table.{total}
 use Rattle.register.specs.Shape.{Shape, table, in-range, known-form}
 use Rattle.register.specs.Area.{shape-of, readers, is-area, undamaged, memory, current, counter, r-start}
 use Rattle.register.specs.Area.{r-end, size, phase, last, pos, len, writer-phase, last-slot, in-hand}
 use Rattle.register.specs.Area.{writes-ended, most-writes}
-use Rattle.register.specs.Conditions.{InRange, T-of, AnArea, Undamaged}
+use Rattle.register.specs.Conditions.{KnownForm, InRange, T-of, AnArea, Undamaged}
 use Rattle.register.specs.Steps
 use Rattle.register.specs.Steps.{Plan, refuse, accept, reader-step, writer-step, free, Move, read, write}
 use Rattle.register.specs.Steps.{step, mover}
 use Rattle.register.specs.Calls.{refused, made, carried-out, answered, read-begun, write-begun, stepped}
 use Rattle.register.specs.Numbers.{Row, _if_, Given, make-rows, Idle, reader, writer, LastNotFree, Overfull}
 use Rattle.register.specs.Numbers.{gone, bound, read-rows, write-rows, step-rows, Numbers}
-use Rattle.theory.proofs.Tests.{true-passes, both, end, next, at-number, if-true, if-equal, if-less, differ-and-same}
-use Rattle.theory.proofs.Tests.{not-differ-and-same}
-use Rattle.register.proofs.Facts.{its-plan, every-call, range-facts, number-of, range-is, area-is}
+use Rattle.theory.proofs.Tests.{passed, true-passes, both, end, next, at-number, if-true, if-equal, if-less}
+use Rattle.theory.proofs.Tests.{differ-and-same, not-differ-and-same}
+use Rattle.register.proofs.Facts.{known-is, its-plan, every-call, range-facts, number-of, range-is, area-is}
 use Rattle.register.proofs.Facts.{undamaged-is, own-is}
 use Rattle.register.proofs.Rows.{Says, unless-not, unless-below, unless-at-most, unless-equal, row, passes}
 use Rattle.register.proofs.Rows.{holds, nothing-more}
@@ -34,19 +33,19 @@ use Rattle.register.proofs.Rows.{holds, nothing-more}
 -- ---- making
 
 module _ (k : Shape) (v : Record) (a : List ℕ) where
-  unfit : Says (known-form (k .form) && in-range k) ((k .form ≢ 1) ⊎ (¬ InRange k))
+  unfit : Says (known-form (k .form) && in-range k) ((¬ KnownForm (k .form)) ⊎ (¬ InRange k))
   unfit = (λ e. go (known-form (k .form)) (in-range k) refl refl e, fits)
     where
       go : (x y : Bool) → known-form (k .form) ≡ x → in-range k ≡ y → x && y ≡ false
-          → (k .form ≢ 1) ⊎ (¬ InRange k)
+          → (¬ KnownForm (k .form)) ⊎ (¬ InRange k)
       go true true d e f = absurd (true≢false f)
       go true false d e f = inr (λ r. true≢false (sym (range-is k .1 r) ∙ e))
-      go false y d e f = inl (eqb-false (k .form) 1 d)
+      go false y d e f = inl (λ r. true≢false (sym (known-is (k .form) .1 r) ∙ d))
 
-      fits : known-form (k .form) && in-range k ≡ true → ¬ ((k .form ≢ 1) ⊎ (¬ InRange k))
+      fits : known-form (k .form) && in-range k ≡ true → ¬ ((¬ KnownForm (k .form)) ⊎ (¬ InRange k))
       fits e =
           let (f, r) = both (known-form (k .form)) (in-range k) (true-passes _ e) in
-          ⊎-elim (λ d. d (eqb→eq (k .form) 1 f)) (λ d. d (range-facts k r))
+          ⊎-elim (λ d. d (known-is (k .form) .0 (passed _ f))) (λ d. d (range-facts k r))
 
   another-length : Says (eqb (length a) (total (table k))) (length a ≢ T-of k)
   another-length =

@@ -11,7 +11,10 @@ use Rattle.register.specs.Area.{last-slot, in-hand, writer-pos, writer-l
 use Rattle.register.specs.Area.{memory}
 use Rattle.register.specs.Shape.{Shape}
 
--- ---- numbers: N is 1 to 64, C is 1 to 256
+-- ---- numbers: the form is 1, N is 1 to 64, C is 1 to 256
+
+abbrev pub KnownForm : ℕ → Type 0
+KnownForm form = form ≡ 1
 
 pub record InRange (k : Shape) : Type 0 where
   pub some-readers : 1 ≤ k .n
@@ -46,7 +49,7 @@ module _ (a : List ℕ) where
 
   pub record AnArea : Type 0 where
     pub eight : 8 ≤ length a
-    pub form : word 0 ≡ 1
+    pub form : KnownForm (word 0)
     pub range : InRange (shape-of a)
     pub total : word 3 ≡ T-of (shape-of a)
     pub slots : word 4 ≡ 8

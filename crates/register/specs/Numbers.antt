@@ -11,7 +11,7 @@ use Rattle.theory.specs.Place.{Record}
 use Rattle.register.specs.Area.{current, r-start, r-end, phase, last, finished, writer-phase, last-slot}
 use Rattle.register.specs.Area.{in-hand, writes-ended, memory}
 use Rattle.register.specs.Shape.{Shape}
-use Rattle.register.specs.Conditions.{InRange, T-of, word, AnArea, Undamaged}
+use Rattle.register.specs.Conditions.{KnownForm, InRange, T-of, word, AnArea, Undamaged}
 use Rattle.register.specs.Calls.{made, read-begun, write-begun, stepped, is-own}
 
 -- ---- rows
@@ -35,7 +35,7 @@ pub data Given : List Row → ℕ → Type 1 where
 
 abbrev pub make-rows : Shape → Record → List ℕ → List Row
 make-rows k v a =
-    9 if ((k .form ≢ 1) ⊎ (¬ InRange k))
+    9 if ((¬ KnownForm (k .form)) ⊎ (¬ InRange k))
     ∷ 10 if (length a ≢ T-of k)
     ∷ 4 if (k .c < length v)
     ∷ []
