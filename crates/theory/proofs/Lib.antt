@@ -1,5 +1,5 @@
 -- Laws of tests, places and tables, of sums, of histories, of copying and of the line. Assumes nothing.
-mod Noted
+mod Computed
 pub mod Tests
 pub mod Places
 pub mod Tables
