@@ -2,6 +2,8 @@
 mod Counts
 mod Balance
 pub mod Moves
+pub mod Frames
+mod Guarded
 mod Counting
 mod Held
 mod WriterDesk
@@ -14,6 +16,7 @@ mod StepCounts
 mod Bounds
 mod Dates
 mod Clean
+mod Guarding
 mod Planned
 mod Going
 pub mod Called

@@ -2,7 +2,8 @@
 -- register: `sizing` is the phase of a reader's size step, behind which it copies; `told` is the phase of a writer that
 -- has published.
 --     Reading                             what a reader has of its slot
---     reading-later, not-yet              time goes on; before the size step nothing is asked
+--     reading-later                       time goes on
+--     not-yet, from-sizing                before the size step nothing is asked
 --     bound-to-newest                     a reader that binds the current slot
 --     copy-starts, no-words               the size step
 --     copy-goes-on, copy-ends             a copying step, the last one
@@ -61,6 +62,12 @@ module _ {sizing : ℕ} {first : Record} where
       (phase : ℕ) → phase < sizing
       → Reading sizing first begin now writes phase len pos number mine size its-number words
   not-yet phase l = record { bound = λ x. absurd (omega arith); copied = λ x. absurd (omega arith) }
+
+  -- so that what is asked may be shown from its size step on
+  pub from-sizing : {begin now phase len pos number size its-number : ℕ} {writes : List Write} {mine words : ℕ → ℕ}
+      → (sizing ≤ phase → Reading sizing first begin now writes phase len pos number mine size its-number words)
+      → Reading sizing first begin now writes phase len pos number mine size its-number words
+  from-sizing v = record { bound = λ x. v x .bound x; copied = λ x. v (omega arith) .copied x }
 
   -- bound to the newest record
   pub bound-to-newest : (h : History) (begin len pos number size its-number : ℕ) (mine words : ℕ → ℕ)

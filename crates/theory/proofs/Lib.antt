@@ -7,3 +7,4 @@ pub mod Placed
 pub mod Inserting
 pub mod Lining
 pub mod Copying
+pub mod Noted

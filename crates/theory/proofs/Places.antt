@@ -9,6 +9,7 @@ use native.Mathlib.Omega.{arith}
 use lib.Dec.{eqb, ltb, ltb→lt, nltb→le}
 use lib.ListN.{length, getD}
 use borrow.Author.Tests.{ne-eqb}
+use Rattle.theory.specs.Lists.{Each, none, also}
 use Rattle.theory.specs.Place.{Record, Place, Memory, changed, Store, apply, copied}
 use Rattle.theory.proofs.Tests.{eqb-same, same-either, true-passes}
 
@@ -58,6 +59,15 @@ changed-elsewhere m p v q d =
 pub apply-append : (m : Memory) (s t : List Store) → apply m (s ++ t) ≡ apply (apply m s) t
 apply-append m [] t = refl
 apply-append m (x ∷ s) t = apply-append (changed m (x .place) (x .value)) s t
+
+-- a store that leaves place q alone, whatever the memory; and stores that all do
+abbrev pub Spares : Place → Store → Type 0
+Spares q s = (m : Memory) → changed m (s .place) (s .value) q ≡ m q
+
+pub apply-spares : (m : Memory) (q : Place) (stores : List Store) → Each (Spares q) stores
+    → apply m stores q ≡ m q
+apply-spares m q [] none = refl
+apply-spares m q (s ∷ l) (also e rest) = apply-spares (changed m (s .place) (s .value)) q l rest ∙ e m
 
 -- a record copied into a row: places elsewhere, places past the record, and the record's own
 module _ (at : ℕ → Place) (apart : (i j : ℕ) → at i ≡ at j → i ≡ j) where
