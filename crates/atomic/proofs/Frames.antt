@@ -2,29 +2,29 @@
 -- step are looked at one by one.
 --     desk-word, writer-word              a word of a reader's desk, of the writer's desk
 --     RecordKept                          a slot holds the record that it held
---     ReaderMay, WriterMay                what a reader may store to, what the writer may
+--     reader-may, writer-may              where a reader may store, where the writer may
 --     ReaderLeaves, reader-leaves         what a reader's move leaves alone
 --     WriterLeaves, writer-leaves         what the writer's move leaves alone
 --     ReaderSeen, reader-seen, WriterSeen, writer-seen   the deed of a move, and what it says of the memories
 -- Assumes nothing.
 use mathlib.Core.Path.{_≡_, refl, _∙_}
 use mathlib.Core.Logic.{_≢_}
-use mathlib.Core.Bool.{true, false}
-use mathlib.Core.List.{List, [], _∷_, _++_}
-use Prim.Native.Nat.{ℕ, suc, _-_, _*_, _≤_, _<_}
+use mathlib.Core.Bool.{Bool, true, false, cond, _&&_}
+use mathlib.Core.List.{List, _++_, map}
+use Prim.Native.Nat.{ℕ, _-_, _*_, _≤_, _<_}
 use native.Mathlib.Omega.{arith}
-use lib.Dec.{eqb}
+use lib.Dec.{eqb, leb, leb→le}
 use borrow.Author.Tests.{ne-eqb}
-use Rattle.theory.specs.Lists.{Each, none, also}
-use Rattle.theory.specs.Place.{Place, Memory, changed, Store, _≔_, apply}
+use Rattle.theory.specs.Lists.{all}
+use Rattle.theory.specs.Place.{Place, Memory, Store, apply}
 use Rattle.theory.specs.History.{Got, Deed}
-use Rattle.register.specs.Area.{current, index, counter, r-start, r-end, size, slot-write-number, contents, limit}
+use Rattle.register.specs.Area.{current, index, r-start, r-end, size, slot-write-number, contents}
 use Rattle.register.specs.Area.{phase, last, finished, writer-phase, in-hand, old-word}
 use Rattle.register.specs.Steps.{sets-phase, unbinds, binds, takes, copies, finishes, sets-out, passes, sizes}
 use Rattle.register.specs.Steps.{clears-start, clears-end, publishes, freezes}
 use Rattle.register.specs.Calls.{published-writes}
-use Rattle.theory.proofs.Tests.{eqb-same, same-either, if-equal, each-follows}
-use Rattle.theory.proofs.Places.{Spares, apply-spares}
+use Rattle.theory.proofs.Tests.{true-passes, both, eqb-same, if-true, if-equal}
+use Rattle.theory.proofs.Places.{apply-apart}
 use Rattle.theory.proofs.Noted.{OfReader, begins-read, goes-on, ends-read}
 use Rattle.theory.proofs.Noted.{OfWriter, begins-write, looks-on, writes-on, publishes-it, ends-write}
 use Rattle.atomic.proofs.Moves
@@ -36,9 +36,6 @@ desk-word f r j = record { part = 2; field = f; row = r; column = j }
 abbrev pub writer-word : ℕ → ℕ → Place
 writer-word f j = record { part = 3; field = f; row = 0; column = j }
 
-abbrev slot-word : ℕ → ℕ → ℕ → Place
-slot-word f s j = record { part = 1; field = f; row = s; column = j }
-
 -- the record that slot s holds: its size, its write number and its contents
 pub record RecordKept (m m′ : Memory) (s : ℕ) : Type 0 where
   pub length : m′ (size s) ≡ m (size s)
@@ -47,11 +44,13 @@ pub record RecordKept (m m′ : Memory) (s : ℕ) : Type 0 where
 
 -- ---- a reader
 
--- its own desk; in phase 2 r_end of slot last; in phase 3 current, whose counter has room for one more
-data ReaderMay (n : ℕ) (m : Memory) (r : ℕ) : Store → Type 0 where
-  own-word : {f j v : ℕ} → ReaderMay n m r (desk-word f r j ≔ v)
-  end-of-last : {v : ℕ} → m (phase r) ≡ 2 → ReaderMay n m r (r-end (m (last r)) ≔ v)
-  one-more : m (phase r) ≡ 3 → counter (m current) < limit n → ReaderMay n m r (current ≔ suc (m current))
+-- its own desk; in phase 2 r_end of slot last; in phase 3 current
+abbrev reader-may : Memory → ℕ → Place → Bool
+reader-may m r q =
+    cond (eqb (q .part) 2) (eqb (q .row) r)
+    (cond (eqb (q .part) 1)
+    (cond (eqb (q .field) 1) (cond (eqb (m (phase r)) 2) (eqb (q .row) (m (last r))) false) false)
+    (cond (eqb (q .part) 0) (eqb (m (phase r)) 3) false))
 
 pub record ReaderLeaves (n : ℕ) (m m′ : Memory) (r : ℕ) : Type 0 where
   -- every word of the writer's desk and of every other reader's
@@ -66,75 +65,41 @@ pub record ReaderLeaves (n : ℕ) (m m′ : Memory) (r : ℕ) : Type 0 where
   pub slot : n < 4294967296 → index (m′ current) ≡ index (m current)
 
 module _ {n : ℕ} {m : Memory} {r : ℕ} where
-  to-writer : (f j : ℕ) (t : Store) → ReaderMay n m r t → Spares (writer-word f j) t
-  to-writer f j t own-word k = refl
-  to-writer f j t (end-of-last e) k = refl
-  to-writer f j t (one-more e x) k = refl
-
-  to-desk : (f q j : ℕ) → q ≢ r → (t : Store) → ReaderMay n m r t → Spares (desk-word f q j) t
-  to-desk f q j d t (own-word {f = f′}) k = rw (ne-eqb q r d) (same-either (eqb f f′) (k (desk-word f q j)))
-  to-desk f q j d t (end-of-last e) k = refl
-  to-desk f q j d t (one-more e x) k = refl
-
-  to-slot : (f s j : ℕ) → f ≢ 1 → (t : Store) → ReaderMay n m r t → Spares (slot-word f s j) t
-  to-slot f s j d t own-word k = refl
-  to-slot f s j d t (end-of-last e) k = rw (ne-eqb f 1 d)
-  to-slot f s j d t (one-more e x) k = refl
-
-  to-end : (s : ℕ) → (m (phase r) ≡ 2 → s ≢ m (last r)) → (t : Store) → ReaderMay n m r t → Spares (r-end s) t
-  to-end s d t own-word k = refl
-  to-end s d t (end-of-last e) k = rw (ne-eqb s (m (last r)) (d e))
-  to-end s d t (one-more e x) k = refl
-
-  to-current : m (phase r) ≢ 3 → (t : Store) → ReaderMay n m r t → Spares current t
-  to-current d t own-word k = refl
-  to-current d t (end-of-last e) k = refl
-  to-current d t (one-more e x) k = absurd (d e)
-
-  same-slot : n < 4294967296 → (k : Memory) (stores : List Store) → Each (ReaderMay n m r) stores
-      → index (k current) ≡ index (m current) → index (apply k stores current) ≡ index (m current)
-  same-slot big k [] none same = same
-  same-slot big k (s ∷ l) (also own-word rest) same = same-slot big (changed k (s .place) (s .value)) l rest same
-  same-slot big k (s ∷ l) (also (end-of-last e) rest) same =
-      same-slot big (changed k (s .place) (s .value)) l rest same
-  same-slot big k (s ∷ l) (also (one-more e x) rest) same =
-      same-slot big (changed k (s .place) (s .value)) l rest (omega arith)
-
-  leaves : (stores : List Store) → Each (ReaderMay n m r) stores → ReaderLeaves n m (apply m stores) r
-  leaves stores own =
+  leaves : (stores : List Store) → all (map (λ s. reader-may m r (s .place)) stores) ≡ true
+      → (n < 4294967296 → index (apply m stores current) ≡ index (m current))
+      → ReaderLeaves n m (apply m stores) r
+  leaves stores own slot =
       record {
-        writer = λ f j. spares (writer-word f j) (to-writer f j);
-        desk = λ f q j d. spares (desk-word f q j) (to-desk f q j d);
-        start = λ s. spares (r-start s) (to-slot 0 s 0 (λ z. omega arith));
-        end = λ s d. spares (r-end s) (to-end s d);
+        writer = λ f j. rest (writer-word f j) refl;
+        desk = λ f q j d. rest (desk-word f q j) (ne-eqb q r d);
         held = λ s.
             record {
-              length = spares (size s) (to-slot 2 s 0 (λ z. omega arith));
-              number = spares (slot-write-number s) (to-slot 3 s 0 (λ z. omega arith));
-              words = λ j. spares (contents s j) (to-slot 4 s j (λ z. omega arith));
+              length = rest (size s) refl;
+              number = rest (slot-write-number s) refl;
+              words = λ j. rest (contents s j) refl;
             };
-        word = λ d. spares current (to-current d);
-        slot = λ big. same-slot big m stores own refl;
+        start = λ s. rest (r-start s) refl;
+        end = λ s d.
+            rest (r-end s)
+            (if-equal (λ x. x ≡ false) (m (phase r)) 2 _ false (λ e. ne-eqb s (m (last r)) (d e)) (λ e. refl));
+        word = λ d. rest current (ne-eqb (m (phase r)) 3 d);
+        slot = slot;
       }
     where
-      spares : (q : Place) → ((t : Store) → ReaderMay n m r t → Spares q t) → apply m stores q ≡ m q
-      spares q one = apply-spares m q stores (each-follows one own)
+      rest : (q : Place) → reader-may m r q ≡ false → apply m stores q ≡ m q
+      rest = apply-apart (reader-may m r) m stores own
 
   pub reader-leaves : {d : Deed} {m′ : Memory} → ReaderDoes n m r d m′ → ReaderLeaves n m m′ r
-  reader-leaves (Moves.read-starts e) = leaves (sets-phase r 1) (also own-word none)
-  reader-leaves (Moves.finds-same e x) = leaves (sets-phase r 4) (also own-word none)
-  reader-leaves (Moves.finds-other e x) = leaves (sets-phase r 2) (also own-word none)
-  reader-leaves (Moves.leaves-slot e x) = leaves (unbinds m r) (also (end-of-last e) (also own-word none))
-  reader-leaves (Moves.joins-slot e x) =
-      leaves (binds m r) (also (one-more e x) (also own-word (also own-word none)))
-  reader-leaves (Moves.takes-none e x) =
-      leaves (takes m r ++ finishes r)
-      (also own-word (also own-word (also own-word (also own-word (also own-word none)))))
-  reader-leaves (Moves.takes-size e x) =
-      leaves (takes m r ++ sets-phase r 5) (also own-word (also own-word (also own-word (also own-word none))))
-  reader-leaves (Moves.copies-word e x) = leaves (copies m r) (also own-word (also own-word none))
-  reader-leaves (Moves.copies-last e x) =
-      leaves (copies m r ++ finishes r) (also own-word (also own-word (also own-word (also own-word none))))
+  reader-leaves (Moves.read-starts e) = leaves (sets-phase r 1) (rw (eqb-same r)) (λ big. refl)
+  reader-leaves (Moves.finds-same e x) = leaves (sets-phase r 4) (rw (eqb-same r)) (λ big. refl)
+  reader-leaves (Moves.finds-other e x) = leaves (sets-phase r 2) (rw (eqb-same r)) (λ big. refl)
+  reader-leaves (Moves.leaves-slot e x) =
+      leaves (unbinds m r) (rw (e, eqb-same (m (last r)), eqb-same r)) (λ big. refl)
+  reader-leaves (Moves.joins-slot e x) = leaves (binds m r) (rw (e, eqb-same r)) (λ big. omega arith)
+  reader-leaves (Moves.takes-none e x) = leaves (takes m r ++ finishes r) (rw (eqb-same r)) (λ big. refl)
+  reader-leaves (Moves.takes-size e x) = leaves (takes m r ++ sets-phase r 5) (rw (eqb-same r)) (λ big. refl)
+  reader-leaves (Moves.copies-word e x) = leaves (copies m r) (rw (eqb-same r)) (λ big. refl)
+  reader-leaves (Moves.copies-last e x) = leaves (copies m r ++ finishes r) (rw (eqb-same r)) (λ big. refl)
 
 -- a read that ended: its reader rests and has finished; the record is its own, and its age what the memory says
 pub record ReadEnded (m m′ : Memory) (r : ℕ) (g : Got) : Type 0 where
@@ -162,12 +127,12 @@ reader-seen {r = r} (Moves.copies-last e x) =
 -- ---- the writer
 
 -- its own desk; in phases 2 to 5 the slot in hand; in phase 6 current; in phase 7 r_start of the old word's slot
-data WriterMay (m : Memory) : Store → Type 0 where
-  its-word : {f j v : ℕ} → WriterMay m (writer-word f j ≔ v)
-  hand-word : {f j v : ℕ} → 2 ≤ m writer-phase → m writer-phase ≤ 5
-      → WriterMay m (slot-word f (m in-hand) j ≔ v)
-  new-word : {v : ℕ} → m writer-phase ≡ 6 → WriterMay m (current ≔ v)
-  old-start : {v : ℕ} → m writer-phase ≡ 7 → WriterMay m (r-start (index (m old-word)) ≔ v)
+abbrev writer-may : Memory → Place → Bool
+writer-may m q =
+    cond (eqb (q .part) 1)
+    (cond (leb 2 (m writer-phase) && leb (m writer-phase) 5) (eqb (q .row) (m in-hand))
+    (cond (eqb (m writer-phase) 7) (cond (eqb (q .field) 0) (eqb (q .row) (index (m old-word))) false) false))
+    (cond (eqb (q .part) 0) (eqb (m writer-phase) 6) (eqb (q .part) 3))
 
 -- the writer is not filling slot s
 abbrev pub Unfilled : Memory → ℕ → Type 0
@@ -185,73 +150,54 @@ pub record WriterLeaves (m m′ : Memory) : Type 0 where
   pub end : (s : ℕ) → Unfilled m s → m′ (r-end s) ≡ m (r-end s)
 
 module _ {m : Memory} where
-  no-desk : (f q j : ℕ) (t : Store) → WriterMay m t → Spares (desk-word f q j) t
-  no-desk f q j t its-word k = refl
-  no-desk f q j t (hand-word lo hi) k = refl
-  no-desk f q j t (new-word e) k = refl
-  no-desk f q j t (old-start e) k = refl
-
-  no-current : m writer-phase ≢ 6 → (t : Store) → WriterMay m t → Spares current t
-  no-current d t its-word k = refl
-  no-current d t (hand-word lo hi) k = refl
-  no-current d t (new-word e) k = absurd (d e)
-  no-current d t (old-start e) k = refl
-
-  no-slot : (f s j : ℕ) → Unfilled m s → (m writer-phase ≡ 7 → f ≡ 0 → s ≢ index (m old-word))
-      → (t : Store) → WriterMay m t → Spares (slot-word f s j) t
-  no-slot f s j d old t its-word k = refl
-  no-slot f s j d old t (hand-word {f = f′} lo hi) k =
-      rw (ne-eqb s (m in-hand) (d lo hi)) (same-either (eqb f f′) (k (slot-word f s j)))
-  no-slot f s j d old t (new-word e) k = refl
-  no-slot f s j d old t (old-start e) k =
-      if-equal (λ x. x ≡ k (slot-word f s j)) f 0 _ _ (λ z. rw (ne-eqb s (index (m old-word)) (old e z))) (λ z. refl)
-
   -- from memory k, which differs from m in the writer's desk alone
   leaves-from : (k : Memory) → ((q : Place) → eqb (q .part) 3 ≡ false → k q ≡ m q) → (stores : List Store)
-      → Each (WriterMay m) stores → WriterLeaves m (apply k stores)
+      → all (map (λ s. writer-may m (s .place)) stores) ≡ true → WriterLeaves m (apply k stores)
   leaves-from k same stores own =
       record {
-        desk = λ f q j. spares (desk-word f q j) refl (no-desk f q j);
-        word = λ d. spares current refl (no-current d);
-        start = λ s d old. spares (r-start s) refl (no-slot 0 s 0 d (λ e z. old e));
-        end = λ s d. spares (r-end s) refl (no-slot 1 s 0 d (λ e z. absurd (omega arith)));
+        desk = λ f q j. rest (desk-word f q j) refl refl;
+        word = λ d. rest current (ne-eqb (m writer-phase) 6 d) refl;
         held = λ s d.
             record {
-              length = spares (size s) refl (no-slot 2 s 0 d (λ e z. absurd (omega arith)));
-              number = spares (slot-write-number s) refl (no-slot 3 s 0 d (λ e z. absurd (omega arith)));
-              words = λ j. spares (contents s j) refl (no-slot 4 s j d (λ e z. absurd (omega arith)));
+              length = rest (size s) (unfilled s d false (λ e. refl)) refl;
+              number = rest (slot-write-number s) (unfilled s d false (λ e. refl)) refl;
+              words = λ j. rest (contents s j) (unfilled s d false (λ e. refl)) refl;
             };
+        start = λ s d old. rest (r-start s) (unfilled s d _ (λ e. ne-eqb s (index (m old-word)) (old e))) refl;
+        end = λ s d. rest (r-end s) (unfilled s d false (λ e. refl)) refl;
       }
     where
-      spares : (q : Place) → eqb (q .part) 3 ≡ false → ((t : Store) → WriterMay m t → Spares q t)
-          → apply k stores q ≡ m q
-      spares q away one = apply-spares k q stores (each-follows one own) ∙ same q away
+      rest : (q : Place) → writer-may m q ≡ false → eqb (q .part) 3 ≡ false → apply k stores q ≡ m q
+      rest q spared away = apply-apart (writer-may m) k stores own q spared ∙ same q away
 
-  leaves-all : (stores : List Store) → Each (WriterMay m) stores → WriterLeaves m (apply m stores)
+      -- of a slot that it is not filling, where the test of phase 7 comes to b
+      unfilled : (s : ℕ) → Unfilled m s → (b : Bool) → (m writer-phase ≡ 7 → b ≡ false)
+          → cond (leb 2 (m writer-phase) && leb (m writer-phase) 5) (eqb s (m in-hand))
+          (cond (eqb (m writer-phase) 7) b false)
+          ≡ false
+      unfilled s d b old =
+          if-true (λ x. x ≡ false) (leb 2 (m writer-phase) && leb (m writer-phase) 5) _ _
+          (λ e.
+          let (lo, hi) = both (leb 2 (m writer-phase)) (leb (m writer-phase) 5) (true-passes _ e) in
+          ne-eqb s (m in-hand) (d (leb→le _ _ lo) (leb→le _ _ hi)))
+          (λ e. if-equal (λ x. x ≡ false) (m writer-phase) 7 b false old (λ z. refl))
+
+  leaves-all : (stores : List Store) → all (map (λ s. writer-may m (s .place)) stores) ≡ true
+      → WriterLeaves m (apply m stores)
   leaves-all = leaves-from m (λ q e. refl)
 
   pub writer-leaves : {n c : ℕ} {d : Deed} {m′ : Memory} → WriterDoes n c m d m′ → WriterLeaves m m′
-  writer-leaves (Moves.write-starts v l e more) =
-      leaves-from (desk-with m v) (λ q away. rw away) (sets-out v)
-      (also its-word (also its-word (also its-word (also its-word none))))
-  writer-leaves (Moves.picks-empty e d x y) = leaves-all (to-phase 3) (also its-word none)
-  writer-leaves (Moves.picks-slot e d x y) = leaves-all (to-phase 2) (also its-word none)
-  writer-leaves (Moves.passes-slot e d x) = leaves-all (passes m) (also its-word none)
-  writer-leaves (Moves.fills-word e x) =
-      leaves-all (fills-to m 2) (also (hand-word (omega arith) (omega arith)) (also its-word (also its-word none)))
-  writer-leaves (Moves.fills-last e x) =
-      leaves-all (fills-to m 3) (also (hand-word (omega arith) (omega arith)) (also its-word (also its-word none)))
-  writer-leaves (Moves.sets-size e) =
-      leaves-all (sizes m)
-      (also (hand-word (omega arith) (omega arith))
-      (also (hand-word (omega arith) (omega arith)) (also its-word none)))
-  writer-leaves (Moves.clears-first e) =
-      leaves-all (clears-start m) (also (hand-word (omega arith) (omega arith)) (also its-word none))
-  writer-leaves (Moves.clears-second e) =
-      leaves-all (clears-end m) (also (hand-word (omega arith) (omega arith)) (also its-word none))
-  writer-leaves (Moves.exchanges e) = leaves-all (publishes m) (also its-word (also (new-word e) (also its-word none)))
-  writer-leaves (Moves.write-ends e) =
-      leaves-all (freezes m) (also (old-start e) (also its-word (also its-word (also its-word none))))
+  writer-leaves (Moves.write-starts v l e more) = leaves-from (desk-with m v) (λ q away. rw away) (sets-out v) refl
+  writer-leaves (Moves.picks-empty e d x y) = leaves-all (to-phase 3) refl
+  writer-leaves (Moves.picks-slot e d x y) = leaves-all (to-phase 2) refl
+  writer-leaves (Moves.passes-slot e d x) = leaves-all (passes m) refl
+  writer-leaves (Moves.fills-word e x) = leaves-all (fills-to m 2) (rw (e, eqb-same (m in-hand)))
+  writer-leaves (Moves.fills-last e x) = leaves-all (fills-to m 3) (rw (e, eqb-same (m in-hand)))
+  writer-leaves (Moves.sets-size e) = leaves-all (sizes m) (rw (e, eqb-same (m in-hand)))
+  writer-leaves (Moves.clears-first e) = leaves-all (clears-start m) (rw (e, eqb-same (m in-hand)))
+  writer-leaves (Moves.clears-second e) = leaves-all (clears-end m) (rw (e, eqb-same (m in-hand)))
+  writer-leaves (Moves.exchanges e) = leaves-all (publishes m) (rw e)
+  writer-leaves (Moves.write-ends e) = leaves-all (freezes m) (rw (e, eqb-same (index (m old-word))))
 
 -- the writer goes on, publishes, ends: its phases before and after, and the word that it publishes
 pub record WriterGoes (m m′ : Memory) : Type 0 where

@@ -17,7 +17,7 @@ use Rattle.atomic.proofs.Moves
 use Rattle.atomic.proofs.Moves.{ReaderDoes, WriterDoes, Does, by-reader, by-writer, to-phase}
 use Rattle.atomic.proofs.Frames.{reader-leaves, Unfilled, WriterLeaves, writer-leaves}
 use Rattle.register.specs.Conditions.{WordWhole, DeskWhole, Slot, Desk, Writer, Whole}
-use Rattle.atomic.proofs.WriterDesk.{further, copying-on, scanning-on, beginning, ending}
+use Rattle.atomic.proofs.WriterDesk.{further, scanning-on, beginning, ending}
 
 module _ (n c : ℕ) (big : n < 4294967296) {m : Memory} (v : Whole n c m) where
   abbrev Slots : Memory → Type 0
@@ -115,24 +115,33 @@ module _ (n c : ℕ) (big : n < 4294967296) {m : Memory} (v : Whole n c m) where
   -- the writer goes on to phase k, and has the same words left
   on-to : (k : ℕ) → 1 ≤ m writer-phase → 3 ≤ k → k ≤ 7 → Writer n c (apply m (to-phase k))
   on-to k busy lo hi =
-      further (v .writer) k (m writer-pos) (m old-word) (λ z. omega arith) lo hi (v .writer .part) (v .writer .before)
+      further (v .writer) k (m writer-pos) (m old-word) (λ z. omega arith) (omega arith) hi (v .writer .part)
+      (λ e. absurd (omega arith)) (v .writer .before)
 
   writer-own : {d : Deed} {m′ : Memory} → WriterDoes n c m d m′ → WriterLeaves m m′
       → WordWhole n (m′ current) × Slots m′ × Writer n c m′
   writer-own (Moves.write-starts u l e more) f = (v .word, v .slot, beginning (v .writer) _ l more)
   writer-own (Moves.picks-empty e d x y) f =
       (v .word, v .slot, on-to 3 (omega arith) (omega arith) (omega arith))
-  writer-own (Moves.picks-slot e d x y) f =
-      (v .word, v .slot, copying-on (v .writer) _ (λ z. omega arith) (omega (arith, v .writer .unmoved e)))
+  writer-own (Moves.picks-slot e d x y) f = (
+    v .word,
+    v .slot,
+    further (v .writer) 2 _ (m old-word) (λ z. omega arith) (omega arith) (omega arith) (v .writer .part)
+        (λ z. omega (arith, v .writer .unmoved e)) (v .writer .before),
+  )
   writer-own (Moves.passes-slot e d x) f =
       (v .word, v .slot, scanning-on (v .writer) _ e (omega (arith, v .writer .hand-one)))
-  writer-own (Moves.fills-word e x) f =
-      (v .word, v .slot, copying-on (v .writer) _ (λ z. omega arith) (omega (arith, v .writer .copying e)))
+  writer-own (Moves.fills-word e x) f = (
+    v .word,
+    v .slot,
+    further (v .writer) 2 _ (m old-word) (λ z. omega arith) (omega arith) (omega arith) (v .writer .copying e)
+        (λ z. omega (arith, v .writer .copying e)) (v .writer .before),
+  )
   writer-own (Moves.fills-last e x) f = (
     v .word,
     v .slot,
     further (v .writer) 3 _ (m old-word) (λ z. omega arith) (omega arith) (omega arith) (v .writer .copying e)
-        (v .writer .before),
+        (λ z. absurd (omega arith)) (v .writer .before),
   )
   writer-own (Moves.sets-size e) f =
       let s = v .slot (m in-hand) (v .writer .hand-one) in (
@@ -161,7 +170,7 @@ module _ (n c : ℕ) (big : n < 4294967296) {m : Memory} (v : Whole n c m) where
         record { slot = rw i (v .writer .hand-one); count = rw k (omega arith) },
         v .slot,
         further (v .writer) 7 (m writer-pos) (m current) (λ z. omega arith) (omega arith) (omega arith)
-            (v .writer .part) (v .word),
+            (v .writer .part) (λ z. absurd (omega arith)) (v .word),
       )
   writer-own (Moves.write-ends e) f =
       let old = index (m old-word) in

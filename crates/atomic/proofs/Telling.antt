@@ -18,7 +18,7 @@ use Rattle.register.specs.Area.{current, index, size, slot-write-number, conten
 use Rattle.register.specs.Area.{desk-write-number, read-record}
 use Rattle.register.specs.Area.{writer-phase, in-hand, writer-pos, write-record}
 use Rattle.theory.specs.History.{Deed, Event, Write, History, noted}
-use Rattle.theory.proofs.Tests.{hit, miss, eqb-same, at-each}
+use Rattle.theory.proofs.Tests.{eqb-same, at-each}
 use Rattle.theory.proofs.Places.{row, row-same, row-record}
 use Rattle.theory.proofs.Placed.{sound-noted, began-noted, Needs, newest, length-closed, newest-closed}
 use Rattle.theory.proofs.Copying.{Reading, reading-later, not-yet, from-sizing, bound-to-newest, copy-starts}
@@ -99,16 +99,6 @@ module _ (n : ℕ) (first : Record) (big : n < 4294967296) (total : ℕ) {m : Me
       (v .newest-one .0) (v .newest-one .1) (v .sound)
 
   module _ {r : ℕ} (l : r < n) where
-    -- the word that it copies
-    abbrev mine-then : ℕ → ℕ
-    mine-then j = cond (eqb j (m (pos r))) (m (contents (m (last r)) (m (pos r)))) (m (read-record r j))
-
-    mine-new : mine-then (m (pos r)) ≡ m (contents (m (last r)) (m (pos r)))
-    mine-new = hit (m (pos r)) (m (contents (m (last r)) (m (pos r)))) (m (read-record r (m (pos r))))
-
-    mine-kept : (j : ℕ) → j ≢ m (pos r) → mine-then j ≡ m (read-record r j)
-    mine-kept j d = miss j (m (pos r)) d (m (contents (m (last r)) (m (pos r)))) (m (read-record r j))
-
     -- what its move needs, and what it has after it
     reader-own : {d : Deed} {m′ : Memory} → ReaderDoes n m r d m′
         → Needs first h r d
@@ -123,9 +113,9 @@ module _ (n : ℕ) (first : Record) (big : n < 4294967296) (total : ℕ) {m : Me
     reader-own (Moves.takes-none e x) = (no-words (v .reader r l) e x, rw (eqb-same r) (not-yet 0 (omega arith)))
     reader-own (Moves.takes-size e x) = (tt, rw (eqb-same r) (copy-starts (v .reader r l) e x))
     reader-own (Moves.copies-word e x) =
-        (tt, rw (eqb-same r) (copy-goes-on (v .reader r l) mine-then e x mine-new mine-kept))
+        (tt, rw (eqb-same r) (copy-goes-on (v .reader r l) e x))
     reader-own (Moves.copies-last e x) = (
-      rw (eqb-same r) (copy-ends (v .reader r l) mine-then e x mine-new mine-kept),
+      rw (eqb-same r) (copy-ends (v .reader r l) e x),
       rw (eqb-same r) (not-yet 0 (omega arith)),
     )
 
@@ -141,16 +131,6 @@ module _ (n : ℕ) (first : Record) (big : n < 4294967296) (total : ℕ) {m : Me
           (f .held (f .writer 2 0 i) .number i) (λ j. f .held (f .writer 2 0 i) .words j i)
 
   -- ---- the writer
-
-  -- the word that it fills in
-  abbrev words-then : ℕ → ℕ
-  words-then j = cond (eqb j (m writer-pos)) (m (write-record (m writer-pos))) (m (contents (m in-hand) j))
-
-  words-new : words-then (m writer-pos) ≡ m (write-record (m writer-pos))
-  words-new = hit (m writer-pos) (m (write-record (m writer-pos))) (m (contents (m in-hand) (m writer-pos)))
-
-  words-kept : (j : ℕ) → j ≢ m writer-pos → words-then j ≡ m (contents (m in-hand) j)
-  words-kept j d = miss j (m writer-pos) d (m (write-record (m writer-pos))) (m (contents (m in-hand) j))
 
   -- steps 4 and 5 leave size, number and words as they are
   cleared-on : (k : ℕ) → 4 ≤ m writer-phase → m writer-phase < 7 → 4 ≤ k → k < 7
@@ -171,9 +151,9 @@ module _ (n : ℕ) (first : Record) (big : n < 4294967296) (total : ℕ) {m : Me
   writer-own (Moves.picks-slot e d x y) = slot-found (v .writer) high e y
   writer-own (Moves.passes-slot e d x) = slot-passed (v .writer) high e
   writer-own (Moves.fills-word e x) =
-      rw (eqb-same (m in-hand)) (fill-goes-on (v .writer) high words-then e x words-new words-kept)
+      rw (eqb-same (m in-hand)) (fill-goes-on (v .writer) high e x)
   writer-own (Moves.fills-last e x) =
-      rw (eqb-same (m in-hand)) (fill-ends (v .writer) high words-then e x words-new words-kept)
+      rw (eqb-same (m in-hand)) (fill-ends (v .writer) high e x)
   writer-own (Moves.sets-size e) =
       rw (eqb-same (m in-hand))
       (words-there (v .writer) high 4 (m writer-pos) (λ j. m (contents (m in-hand) j)) (omega arith) (omega arith)
