@@ -20,7 +20,7 @@ use Rattle.theory.specs.Lists.{Each, none, also}
 use Rattle.theory.proofs.Tests.{eqb-same, at-each}
 use Rattle.theory.proofs.Places.{row-length}
 use Rattle.theory.proofs.Placed.{newest}
-use Rattle.theory.proofs.Noted.{steps-kept, writes-kept, reads-kept}
+use Rattle.theory.proofs.Noted.{beside, writes-kept, reads-kept}
 use Rattle.atomic.proofs.Moves
 use Rattle.atomic.proofs.Moves.{ReaderDoes, WriterDoes, Does, by-reader, by-writer, got-now, desk-record}
 use Rattle.atomic.proofs.Frames.{reader-leaves, reader-seen, writer-leaves, writer-seen}
@@ -157,17 +157,18 @@ module _ (n : ℕ) (first : Record) where
       keeps-bounds {m′ = m′} (by-reader {r = r} {d = d} l x) =
           let (reads, own) = reader-own l x in
           let f = reader-leaves x in
+          let b = beside all-moves h r d in
           let k = writes-kept all-moves h r (reader-seen x) in
           record {
             reads = reads;
             writes = rw (k .writes) (v .writes);
             reader = at-each (ReaderAt m′ (noted all-moves h r d)) r own
                 (λ q i other.
-                rw (steps-kept all-moves h r q other d, f .desk 0 q 0 other, f .desk 2 q 0 other) (v .reader q i));
+                rw (b .steps q other, f .desk 0 q 0 other, f .desk 2 q 0 other) (v .reader q i));
             writer =
                 rw (
                   k .looks,
-                  steps-kept all-moves h r n (λ z. omega arith) d,
+                  b .steps n (λ z. omega arith),
                   f .writer 0 0,
                   f .writer 2 0,
                   f .writer 4 0,
@@ -178,10 +179,11 @@ module _ (n : ℕ) (first : Record) where
       keeps-bounds (by-writer {d = d} x) =
           let (writes, own) = writer-own x in
           let f = writer-leaves x in
+          let b = beside all-moves h n d in
           record {
             reads = rw (reads-kept all-moves h n (writer-seen x)) (v .reads);
             writes = writes;
             reader = λ q i.
-                rw (steps-kept all-moves h n q (λ z. omega arith) d, f .desk 0 q 0, f .desk 2 q 0) (v .reader q i);
+                rw (b .steps q (λ z. omega arith), f .desk 0 q 0, f .desk 2 q 0) (v .reader q i);
             writer = own;
           }

@@ -1,4 +1,6 @@
 -- Form 1 only: nobody has gone from the current slot, and nobody is about to, so that the counter stays within N.
+--     Clean, stays-clean                  this, and that every accepted move keeps it
+--     guards                              with the counts, the record of facts that all above rests on
 -- Assumes nothing.
 use mathlib.Core.Path.{_≡_, sym}
 use mathlib.Core.Logic.{_≢_}
@@ -7,13 +9,17 @@ use native.Mathlib.Omega.{arith}
 use Rattle.theory.specs.Place.{Memory}
 use Rattle.register.specs.Area.{current, index, r-end, phase, last, writer-phase, in-hand}
 use Rattle.theory.specs.History.{Deed, Event}
-use Rattle.theory.proofs.Tests.{eqb-same, at-each}
+use Rattle.register.specs.Conditions.{Whole}
+use Rattle.theory.proofs.Tests.{not-differ-and-same, eqb-same, at-each}
 use Rattle.theory.proofs.Noted.{begins-write, looks-on, writes-on, publishes-it, ends-write}
 use Rattle.atomic.proofs.Moves
 use Rattle.atomic.proofs.Moves.{ReaderDoes, Does, by-reader, by-writer}
-use Rattle.atomic.proofs.Frames.{reader-leaves, Unfilled, WriterLeaves, writer-leaves, WriterSeen, writer-seen}
+use Rattle.atomic.proofs.Frames.{reader-leaves}
+use Rattle.atomic.proofs.Frames.{Unfilled, WriterLeaves, writer-leaves, WriterSeen, writer-seen}
 use Rattle.atomic.proofs.Counting.{Counted}
-use Rattle.atomic.proofs.Held.{unheld, hand-apart, none-gone}
+use Rattle.atomic.proofs.Balance.{hand-alone}
+use Rattle.atomic.proofs.Held.{unheld, scan-within, more-slots, end-room, counter-room}
+use Rattle.atomic.proofs.Guarded.{Guarded}
 
 -- a reader that is about to leave is not bound to the current slot
 abbrev pub Turned : Memory → ℕ → Type 0
@@ -39,7 +45,7 @@ module _ (n : ℕ) (big : n < 4294967296) {m : Memory} (i : Counted n m) (v : Cl
   -- the writer publishes nothing
   not-published : {m′ : Memory} → WriterLeaves m m′ → m writer-phase ≢ 6 → Clean n m′
   not-published f d =
-      let away : Unfilled m (index (m current)) = λ lo hi e. hand-apart n m i lo (omega arith) (sym e) in
+      let away : Unfilled m (index (m current)) = λ lo hi e. hand-alone (i .counts) lo (omega arith) .3 (sym e) in
       record {
         nobody = rw (f .word d, f .end (index (m current)) away) (v .nobody);
         turned = λ q k. rw (f .desk 0 q 0, f .desk 1 q 0, f .word d) (v .turned q k);
@@ -53,7 +59,8 @@ module _ (n : ℕ) (big : n < 4294967296) {m : Memory} (i : Counted n m) (v : Cl
       let e = x .before in
       let same : index (m in-hand * 4294967296) ≡ m in-hand = omega arith in
       record {
-        nobody = rw (x .new, same, f .end (m in-hand) (λ lo hi. absurd (omega arith))) (none-gone n m i e);
+        nobody = rw (x .new, same, f .end (m in-hand) (λ lo hi. absurd (omega arith)))
+            (hand-alone (i .counts) (omega arith) (omega arith) .5 (omega arith));
         turned = λ q k. rw (f .desk 0 q 0, f .desk 1 q 0, x .new, same)
             (λ y. unheld n m i (omega arith) (omega arith) q k (λ z. omega arith));
       }
@@ -68,3 +75,17 @@ module _ (n : ℕ) (big : n < 4294967296) {m : Memory} (i : Counted n m) (v : Cl
             (λ q k d. rw (f .desk 0 q 0 d, f .desk 1 q 0 d, f .slot big) (v .turned q k));
       }
   stays-clean (by-writer x) = writer-clean (writer-leaves x) (writer-seen x)
+
+-- clean counts on an undamaged memory are all that is needed above them
+pub guards : {n c : ℕ} {m : Memory} → Counted n m → Clean n m → Whole n c m → Guarded n m
+guards {n} {c} {m} i v whole =
+    record {
+      hand-apart = λ lo hi e. hand-alone (i .counts) lo (omega arith) .3 (sym e);
+      unheld = λ r l y lo hi. unheld n m i lo (omega arith) r l (λ z. omega arith);
+      scan-within = scan-within n m i;
+      more-slots = λ e taken. more-slots n m i e (not-differ-and-same _ _ _ _ taken);
+      end-room = λ r l e.
+          end-room n m i r l e (v .turned r l e) (whole .slot (m (last r)) (whole .desk r l .slot) .start)
+          (whole .writer .before .count);
+      counter-room = λ r l e. counter-room n m i (v .nobody) r l e;
+    }

@@ -88,7 +88,8 @@ module _ (n : ℕ) where
   unfolding bound
   same-bound {m} {m′} f =
       fun-ext
-      (λ s. sum-same n (λ r. is-bound s (m′ (phase r)) (m′ (last r))) (λ r. is-bound s (m (phase r)) (m (last r)))
+      (λ s.
+      sum-same n (λ r. is-bound s (m′ (phase r)) (m′ (last r))) (λ r. is-bound s (m (phase r)) (m (last r)))
       (λ r h. rw (f .desk 0 r 0, f .desk 1 r 0)))
 
   abbrev pub Counts : Memory → (ℕ → ℕ) → Type 0
@@ -106,11 +107,11 @@ module _ (n : ℕ) where
 
   module _ {m : Memory} {r : ℕ} (v : Counted m) (h : r < n) where
     -- it neither leaves nor joins a slot
-    stays : {m′ : Memory} → ReaderLeaves n m m′ r → m (phase r) ≢ 2 → m (phase r) ≢ 3
+    stays : {m′ : Memory} → ReaderLeaves n m m′ r → (2 ≤ m (phase r) → 4 ≤ m (phase r))
         → m′ (last r) ≡ m (last r)
         → ((s : ℕ) → is-bound s (m (phase r)) (m (last r)) ≡ is-bound s (m′ (phase r)) (m′ (last r)))
         → Counted m′
-    stays {m′} f not-2 not-3 same-last alike =
+    stays {m′} f neither same-last alike =
         record {
           lasts = at-each (λ q. m′ (last q) < n + 2) r (rw same-last (v .lasts r h))
               (λ q k d. rw (f .desk 1 q 0 d) (v .lasts q k));
@@ -119,10 +120,13 @@ module _ (n : ℕ) where
       where
         same : Counts m′ (bound n m′) ≡ Counts m (bound n m)
         same = λ i.
-            Balance n (index (f .word not-3 i)) (counter (f .word not-3 i)) (λ s. f .start s i)
-            (λ s. f .end s (λ e. absurd (not-2 e)) i) (λ s. all s i) (f .writer 0 0 i) (f .writer 1 0 i)
-            (f .writer 2 0 i) (index (f .writer 5 0 i)) (counter (f .writer 5 0 i))
+            Balance n (index (word i)) (counter (word i)) (λ s. f .start s i)
+            (λ s. f .end s (λ e. absurd (omega (arith, neither (omega arith)))) i) (λ s. all s i) (f .writer 0 0 i)
+            (f .writer 1 0 i) (f .writer 2 0 i) (index (f .writer 5 0 i)) (counter (f .writer 5 0 i))
           where
+            word : m′ current ≡ m current
+            word = f .word (λ e. omega (arith, neither (omega arith)))
+
             all : (s : ℕ) → bound n m′ s ≡ bound n m s
             all s = omega (arith, moved f h s, alike s)
 
@@ -157,7 +161,8 @@ module _ (n : ℕ) where
           counts = subst₂ at-word (sym (f .slot big)) (sym more)
               (one-joins (v .counts) (bound n m′)
               (λ s d.
-              omega (arith, moved f h s, gone s, bound-away s (m′ (phase r)) (m′ (last r)) (λ y. d (sym y ∙ here))))
+              let away = bound-away s (m′ (phase r)) (m′ (last r)) (λ y. d (sym y ∙ here)) in
+              omega (arith, moved f h s, gone s, away))
               (omega (arith, moved f h i, gone i, bound-here i (m′ (phase r)) (m′ (last r)) turned here)));
         }
       where
@@ -184,24 +189,17 @@ module _ (n : ℕ) where
         gone : (s : ℕ) → is-bound s (m (phase r)) (m (last r)) ≡ 0
         gone s = unbound s (m (phase r)) (m (last r)) e
 
-    reader-counts : {d : Deed} {m′ : Memory} → n < 4294967296 → ReaderDoes n m r d m′ → ReaderLeaves n m m′ r
-        → Counted m′
-    reader-counts big (Moves.read-starts e) f =
-        stays f (λ y. omega arith) (λ y. omega arith) refl (λ s. rw (eqb-same r, e))
-    reader-counts big (Moves.finds-same e x) f =
-        stays f (λ y. omega arith) (λ y. omega arith) refl (λ s. rw (eqb-same r, e))
-    reader-counts big (Moves.finds-other e x) f =
-        stays f (λ y. omega arith) (λ y. omega arith) refl (λ s. rw (eqb-same r, e))
+    reader-counts : {d : Deed} {m′ : Memory} → n < 4294967296 → ReaderDoes n m r d m′
+        → ReaderLeaves n m m′ r → Counted m′
+    reader-counts big (Moves.read-starts e) f = stays f (λ y. omega arith) refl (λ s. rw (eqb-same r, e))
+    reader-counts big (Moves.finds-same e x) f = stays f (λ y. omega arith) refl (λ s. rw (eqb-same r, e))
+    reader-counts big (Moves.finds-other e x) f = stays f (λ y. omega arith) refl (λ s. rw (eqb-same r, e))
     reader-counts big (Moves.leaves-slot e x) f = leaving e f
     reader-counts big (Moves.joins-slot e x) f = joining big e x f
-    reader-counts big (Moves.takes-none e x) f =
-        stays f (λ y. omega arith) (λ y. omega arith) refl (λ s. rw (eqb-same r, e))
-    reader-counts big (Moves.takes-size e x) f =
-        stays f (λ y. omega arith) (λ y. omega arith) refl (λ s. rw (eqb-same r, e))
-    reader-counts big (Moves.copies-word e x) f =
-        stays f (λ y. omega arith) (λ y. omega arith) refl (λ s. refl)
-    reader-counts big (Moves.copies-last e x) f =
-        stays f (λ y. omega arith) (λ y. omega arith) refl (λ s. rw (eqb-same r, e))
+    reader-counts big (Moves.takes-none e x) f = stays f (λ y. omega arith) refl (λ s. rw (eqb-same r, e))
+    reader-counts big (Moves.takes-size e x) f = stays f (λ y. omega arith) refl (λ s. rw (eqb-same r, e))
+    reader-counts big (Moves.copies-word e x) f = stays f (λ y. omega arith) refl (λ s. refl)
+    reader-counts big (Moves.copies-last e x) f = stays f (λ y. omega arith) refl (λ s. rw (eqb-same r, e))
 
   -- ---- the writer: the readers are bound as they were
 
@@ -210,8 +208,8 @@ module _ (n : ℕ) where
     filling-on : (k : ℕ) → 2 ≤ m writer-phase → m writer-phase ≤ 5 → 2 ≤ k → k ≤ 5
         → Counts (apply m (to-phase k)) (bound n m)
     filling-on k lo hi lo′ hi′ =
-        hand-filled (v .counts) (λ s. m (r-start s)) (λ s. m (r-end s)) k lo hi lo′ (omega arith) (λ y. absurd (omega arith))
-        (λ s d. refl) (λ s d. refl)
+        hand-filled (v .counts) (λ s. m (r-start s)) (λ s. m (r-end s)) k lo hi lo′ (omega arith)
+        (λ y. absurd (omega arith)) (λ s d. refl) (λ s d. refl)
 
     writer-counts : {c : ℕ} {d : Deed} {m′ : Memory} → WriterDoes n c m d m′ → WriterLeaves m m′
         → Counts m′ (bound n m)
@@ -223,12 +221,12 @@ module _ (n : ℕ) where
     writer-counts (Moves.fills-last e x) f = filling-on 3 (omega arith) (omega arith) (omega arith) (omega arith)
     writer-counts (Moves.sets-size e) f = filling-on 4 (omega arith) (omega arith) (omega arith) (omega arith)
     writer-counts (Moves.clears-first e) f =
-        hand-filled (v .counts) (λ s. apply m (clears-start m) (r-start s)) (λ s. m (r-end s)) 5 (omega arith) (omega arith)
-        (omega arith) (omega arith) (λ y. absurd (omega arith))
+        hand-filled (v .counts) (λ s. apply m (clears-start m) (r-start s)) (λ s. m (r-end s)) 5 (omega arith)
+        (omega arith) (omega arith) (omega arith) (λ y. absurd (omega arith))
         (λ s d. f .start s (λ lo hi. d) (λ y. absurd (omega arith))) (λ s d. refl)
     writer-counts (Moves.clears-second e) f =
-        hand-filled (v .counts) (λ s. m (r-start s)) (λ s. apply m (clears-end m) (r-end s)) 6 (omega arith) (omega arith)
-        (omega arith) (omega arith) (λ y. hit (m in-hand) 0 (m (r-end (m in-hand)))) (λ s d. refl)
+        hand-filled (v .counts) (λ s. m (r-start s)) (λ s. apply m (clears-end m) (r-end s)) 6 (omega arith)
+        (omega arith) (omega arith) (omega arith) (λ y. hit (m in-hand) 0 (m (r-end (m in-hand)))) (λ s d. refl)
         (λ s d. f .end s (λ lo hi. d))
     writer-counts (Moves.exchanges e) f =
         let i : index (m in-hand * 4294967296) ≡ m in-hand = omega arith in

@@ -1,5 +1,5 @@
--- What a move leaves alone, by whose move it is, and what is seen of it. Here, and nowhere else, the stores of every
--- step are looked at one by one.
+-- What a move leaves alone, by whose move it is, and what is seen of it. What a store more in some step would change
+-- outside the desk of its process shows here.
 --     desk-word, writer-word              a word of a reader's desk, of the writer's desk
 --     RecordKept                          a slot holds the record that it held
 --     reader-may, writer-may              where a reader may store, where the writer may
@@ -217,15 +217,19 @@ pub record WriterEnds (m m′ : Memory) : Type 0 where
 abbrev pub WriterSeen : Memory → Memory → Deed → Type 0
 WriterSeen m m′ = OfWriter (WriterGoes m m′) (WriterPublishes m m′) (WriterEnds m m′)
 
+goes : {m m′ : Memory} → m writer-phase < 6 → m′ writer-phase ≢ 0 → m′ writer-phase ≢ 7
+    → WriterGoes m m′
+goes before busy untold = record { before = before; busy = busy; untold = untold }
+
 pub writer-seen : {n c : ℕ} {m m′ : Memory} {d : Deed} → WriterDoes n c m d m′ → WriterSeen m m′ d
-writer-seen (Moves.write-starts v l e more) = begins-write (record { before = omega arith; busy = λ z. omega arith; untold = λ z. omega arith })
-writer-seen (Moves.picks-empty e d x y) = looks-on (record { before = omega arith; busy = λ z. omega arith; untold = λ z. omega arith })
-writer-seen (Moves.picks-slot e d x y) = looks-on (record { before = omega arith; busy = λ z. omega arith; untold = λ z. omega arith })
-writer-seen (Moves.passes-slot e d x) = looks-on (record { before = omega arith; busy = λ z. omega arith; untold = λ z. omega arith })
-writer-seen (Moves.fills-word e x) = writes-on (record { before = omega arith; busy = λ z. omega arith; untold = λ z. omega arith })
-writer-seen (Moves.fills-last e x) = writes-on (record { before = omega arith; busy = λ z. omega arith; untold = λ z. omega arith })
-writer-seen (Moves.sets-size e) = writes-on (record { before = omega arith; busy = λ z. omega arith; untold = λ z. omega arith })
-writer-seen (Moves.clears-first e) = writes-on (record { before = omega arith; busy = λ z. omega arith; untold = λ z. omega arith })
-writer-seen (Moves.clears-second e) = writes-on (record { before = omega arith; busy = λ z. omega arith; untold = λ z. omega arith })
+writer-seen (Moves.write-starts v l e more) = begins-write (goes (omega arith) (λ z. omega arith) (λ z. omega arith))
+writer-seen (Moves.picks-empty e d x y) = looks-on (goes (omega arith) (λ z. omega arith) (λ z. omega arith))
+writer-seen (Moves.picks-slot e d x y) = looks-on (goes (omega arith) (λ z. omega arith) (λ z. omega arith))
+writer-seen (Moves.passes-slot e d x) = looks-on (goes (omega arith) (λ z. omega arith) (λ z. omega arith))
+writer-seen (Moves.fills-word e x) = writes-on (goes (omega arith) (λ z. omega arith) (λ z. omega arith))
+writer-seen (Moves.fills-last e x) = writes-on (goes (omega arith) (λ z. omega arith) (λ z. omega arith))
+writer-seen (Moves.sets-size e) = writes-on (goes (omega arith) (λ z. omega arith) (λ z. omega arith))
+writer-seen (Moves.clears-first e) = writes-on (goes (omega arith) (λ z. omega arith) (λ z. omega arith))
+writer-seen (Moves.clears-second e) = writes-on (goes (omega arith) (λ z. omega arith) (λ z. omega arith))
 writer-seen (Moves.exchanges e) = publishes-it (record { before = e; after = refl; new = refl })
 writer-seen (Moves.write-ends e) = ends-write (record { before = e; after = refl })

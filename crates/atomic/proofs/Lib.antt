@@ -16,7 +16,6 @@ mod StepCounts
 mod Bounds
 mod Dates
 mod Clean
-mod Guarding
 mod Planned
 mod Going
 pub mod Called

@@ -36,7 +36,8 @@ reader-works (begins-read busy) = rw (ne-eqb _ _ busy)
 reader-works (goes-on busy) = rw (ne-eqb _ _ busy)
 reader-works (ends-read x) = rw (x .rests)
 
-writer-works : {m m′ : Memory} {d : Deed} → WriterSeen m m′ d → not (eqb (m′ writer-phase) 0) ≡ not (is-end d)
+writer-works : {m m′ : Memory} {d : Deed} → WriterSeen m m′ d
+    → not (eqb (m′ writer-phase) 0) ≡ not (is-end d)
 writer-works (begins-write x) = rw (ne-eqb _ _ (x .busy))
 writer-works (looks-on x) = rw (ne-eqb _ _ (x .busy))
 writer-works (writes-on x) = rw (ne-eqb _ _ (x .busy))

@@ -161,7 +161,10 @@ module _ (n c : ℕ) (m : Memory) where
           let word = body-read-record n c r (m (pos r)) l (omega (arith, v .desk r l .copying e, v .desk r l .words)) in
           if-equal R (suc (m (pos r))) (m (len r)) (accept (Steps.copies m r ++ Steps.finishes r) true)
           (accept (Steps.copies m r) false)
-          (λ x. (by-reader l (Moves.copies-last e x), also word (also (desk 2 tt) (also (desk 5 tt) (also (desk 0 tt) none)))))
+          (λ x. (
+            by-reader l (Moves.copies-last e x),
+            also word (also (desk 2 tt) (also (desk 5 tt) (also (desk 0 tt) none))),
+          ))
           (λ x. (on 5 e (Moves.copies-word e x), also word (also (desk 2 tt) none)))
 
       reader-planned : R (reader-step n m r)

@@ -6,11 +6,11 @@
 --     run-begins-good, run-ends-good      it has it at the beginning, and at the end
 --     demand-3                            the theorem
 -- Assumes nothing.
-use mathlib.Core.Path.{_≡_, refl, sym, ap, subst, subst₂, _∙_}
+use mathlib.Core.Path.{_≡_, sym, ap, subst, subst₂, _∙_}
 use mathlib.Core.Logic.{inl, inr}
 use mathlib.Core.Bool.{true}
 use mathlib.Core.List.{List, [], _∷_}
-use Prim.Native.Nat.{ℕ, suc, _+_, _≤_, _<_}
+use Prim.Native.Nat.{ℕ, _+_, _≤_, _<_}
 use native.Mathlib.Omega.{arith}
 use lib.Dec.{lit<}
 use lib.ListN.{length}
@@ -25,13 +25,12 @@ use Rattle.atomic.specs.Seen.{Accepted, none, then, event, events}
 use Rattle.theory.specs.History.{Read, History, noted, all-noted, nothing-yet}
 use Rattle.atomic.specs.Demands.{Run, beginning, now, told, Promise, Demand3}
 use Rattle.theory.proofs.Tests.{each-follows}
-use Rattle.theory.proofs.Noted.{moves-noted}
+use Rattle.theory.proofs.Noted.{beside}
 use Rattle.register.proofs.Facts.{whole-area}
 use Rattle.atomic.proofs.Moves.{Does}
 use Rattle.atomic.proofs.Counting.{Counted, keeps-counts}
-use Rattle.atomic.proofs.Clean.{Clean, stays-clean}
+use Rattle.atomic.proofs.Clean.{Clean, stays-clean, guards}
 use Rattle.atomic.proofs.Guarded.{Guarded}
-use Rattle.atomic.proofs.Guarding.{guards}
 use Rattle.theory.proofs.Lining.{in-line}
 use Rattle.atomic.proofs.Told.{Told}
 use Rattle.atomic.proofs.Telling.{tells}
@@ -74,7 +73,7 @@ moves-all-noted all-moves a [] h = omega arith
 moves-all-noted all-moves a (x ∷ l) h =
     let h′ = noted all-moves h (event a x .who) (event a x .what) in
     moves-all-noted all-moves (answered a x .area) l h′
-    ∙ omega (arith, moves-noted all-moves h (event a x .who) (event a x .what))
+    ∙ omega (arith, beside all-moves h (event a x .who) (event a x .what) .moves)
 
 module _ (n c : ℕ) (first : Record) (range : InRange n c) where
   big : n < 4294967296
@@ -138,7 +137,7 @@ module _ (n c : ℕ) (first : Record) (range : InRange n c) where
   run-good a [] h none e g = g
   run-good {all-moves = all-moves} a (x ∷ l) h (then z rest) e g =
       run-good (answered a x .area) l (noted all-moves h (event a x .who) (event a x .what)) rest
-      (ap (λ k. k + length l) (moves-noted all-moves h (event a x .who) (event a x .what)) ∙ omega arith)
+      (ap (λ k. k + length l) (beside all-moves h (event a x .who) (event a x .what) .moves) ∙ omega arith)
       (next-good g x z (omega arith))
 
 -- the state at the beginning of a run, and at its end

@@ -10,7 +10,7 @@ use mathlib.Core.Bool.{cond}
 use mathlib.Core.List.{List}
 use Prim.Native.Nat.{ℕ, suc, _*_, _≤_, _<_}
 use native.Mathlib.Omega.{arith}
-use lib.Dec.{eqb, ltb}
+use lib.Dec.{ltb}
 use lib.ListN.{length, getD}
 use borrow.Author.Tests.{lt-ltb}
 use Rattle.theory.specs.Place.{Record, Place, Memory, apply}
@@ -27,7 +27,7 @@ use Rattle.theory.proofs.Copying.{Writing, write-begins, slot-found, words-ther
 use Rattle.theory.proofs.Copying.{fill-ends}
 use Rattle.theory.proofs.Copying.{published-whole, publishes-it, ends-it}
 use Rattle.theory.proofs.Noted
-use Rattle.theory.proofs.Noted.{moves-noted, began-kept, WritesKept, writes-kept, needs-none, reading-noted}
+use Rattle.theory.proofs.Noted.{beside, WritesKept, writes-kept, needs-none, reading-noted}
 use Rattle.theory.proofs.Noted.{begins-write, looks-on, writes-on, ends-write}
 use Rattle.atomic.proofs.Moves
 use Rattle.atomic.proofs.Moves.{ReaderDoes, WriterDoes, Does, by-reader, by-writer, to-phase}
@@ -47,22 +47,8 @@ desk-holds u f =
 
 module _ (n : ℕ) (first : Record) (big : n < 4294967296) (total : ℕ) {m : Memory} {h : History}
     (g : Guarded n m) (v : Told n first m h) (t : h .moves < total) where
-  -- the invariant after a deed of process p
-  told-by : {m′ : Memory} (p : ℕ) (d : Deed) → Needs first h p d
-      → Holds m′ (index (m′ current)) (newest first (noted total h p d .writes)) (length (noted total h p d .writes))
-      → ((q : ℕ) → q < n
-      → Reads n first m′ (noted total h p d .began q) (noted total h p d .moves) (noted total h p d .writes) q)
-      → Writes n first m′ (noted total h p d) → Told n first m′ (noted total h p d)
-  told-by p d needs newest-one reader writer =
-      record {
-        sound = sound-noted first total h p d (v .began p) t needs (v .sound);
-        began = began-noted total h p d (v .began);
-        newest-one = newest-one;
-        reader = reader;
-        writer = writer;
-      }
-
-  holds-kept : {m′ : Memory} {s : ℕ} {u : Record} {k : ℕ} → RecordKept m m′ s → Holds m s u k → Holds m′ s u k
+  holds-kept : {m′ : Memory} {s : ℕ} {u : Record} {k : ℕ} → RecordKept m m′ s → Holds m s u k
+      → Holds m′ s u k
   holds-kept {m′} {s} {u} {k} f = transport (sym same)
     where
       same : Holds m′ s u k ≡ Holds m s u k
@@ -141,7 +127,8 @@ module _ (n : ℕ) (first : Record) (big : n < 4294967296) (total : ℕ) {m : Me
       (omega arith) (v .writer .filled (omega arith) (omega arith))
       (λ z. v .writer .sized (omega arith) (omega arith))
 
-  writer-own : {c : ℕ} {d : Deed} {m′ : Memory} → WriterDoes n c m d m′ → Writes n first m′ (noted total h n d)
+  writer-own : {c : ℕ} {d : Deed} {m′ : Memory} → WriterDoes n c m d m′
+      → Writes n first m′ (noted total h n d)
   writer-own (Moves.write-starts u l e more) =
       write-begins (v .writer) high u (λ j. cond (ltb j (length u)) (getD u j 0) (m (write-record j))) e
       (desk-holds u (λ j. m (write-record j)))
@@ -171,7 +158,8 @@ module _ (n : ℕ) (first : Record) (big : n < 4294967296) (total : ℕ) {m : Me
     same-current d = rw (f .word d) (holds-kept (f .held (index (m current)) (g .hand-apart)) (v .newest-one))
 
     newest-then : {d : Deed} → WriterSeen m m′ d
-        → Holds m′ (index (m′ current)) (newest first (noted total h n d .writes)) (length (noted total h n d .writes))
+        → Holds m′ (index (m′ current)) (newest first (noted total h n d .writes))
+        (length (noted total h n d .writes))
     newest-then (begins-write x) = same-current (λ e. omega (arith, x .before))
     newest-then (looks-on x) = same-current (λ e. omega (arith, x .before))
     newest-then (writes-on x) = same-current (λ e. omega (arith, x .before))
@@ -192,24 +180,35 @@ module _ (n : ℕ) (first : Record) (big : n < 4294967296) (total : ℕ) {m : Me
   tells {m′ = m′} (by-reader {r = r} {d = d} l x) =
       let (needs, own) = reader-own l x in
       let f = reader-leaves x in
+      let b = beside total h r d in
       let k = writes-kept total h r (reader-seen x) in
-      told-by r d needs (rw (f .slot big, k .writes) (holds-kept (f .held (index (m current))) (v .newest-one)))
-      (at-each
-      (λ q. Reads n first m′ (noted total h r d .began q) (noted total h r d .moves) (noted total h r d .writes) q)
-      r own
-      (λ q i other.
-      rw (began-kept total h r q other d, moves-noted total h r d, k .writes)
-      (reads-kept q (λ f′ j. f .desk f′ q j other) (f .held (m (last q))) (reading-later (v .reader q i)))))
-      (writes-kept-by (noted total h r d) f k)
+      record {
+        sound = sound-noted first total h r d (v .began r) t needs (v .sound);
+        began = began-noted total h r d (v .began);
+        newest-one = rw (f .slot big, k .writes) (holds-kept (f .held (index (m current))) (v .newest-one));
+        reader = at-each
+            (λ q.
+            Reads n first m′ (noted total h r d .began q) (noted total h r d .moves) (noted total h r d .writes) q)
+            r own
+            (λ q i other.
+            rw (b .began q other, b .moves, k .writes)
+            (reads-kept q (λ f′ j. f .desk f′ q j other) (f .held (m (last q))) (reading-later (v .reader q i))));
+        writer = writes-kept-by (noted total h r d) f k;
+      }
   tells (by-writer {d = d} x) =
       let f = writer-leaves x in
+      let b = beside total h n d in
       let s = writer-seen x in
-      told-by n d (needs-none total h n first s) (newest-then f s)
-      (λ q i.
-      rw (began-kept total h n q (λ z. omega arith) d, moves-noted total h n d)
-      (from-sizing
-      (λ y.
-      let far : 4 ≤ m (phase q) = omega (arith, f .desk 0 q 0) in
-      reads-kept q (λ f′ j. f .desk f′ q j) (f .held (m (last q)) (g .unheld q i far))
-      (reading-noted total h n (v .began q) s (reading-later (v .reader q i))))))
-      (writer-own x)
+      record {
+        sound = sound-noted first total h n d (v .began n) t (needs-none total h n first s) (v .sound);
+        began = began-noted total h n d (v .began);
+        newest-one = newest-then f s;
+        reader = λ q i.
+            rw (b .began q (λ z. omega arith), b .moves)
+            (from-sizing
+            (λ y.
+            let far : 4 ≤ m (phase q) = omega (arith, f .desk 0 q 0) in
+            reads-kept q (λ f′ j. f .desk f′ q j) (f .held (m (last q)) (g .unheld q i far))
+            (reading-noted total h n (v .began q) s (reading-later (v .reader q i)))));
+        writer = writer-own x;
+      }

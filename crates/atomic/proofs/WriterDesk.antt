@@ -8,8 +8,8 @@ use Rattle.register.specs.Conditions.{WordWhole, WriterWhole}
 
 module _ {n c phase last hand pos len old ended : ℕ} (v : WriterWhole n c phase last hand pos len old ended) where
   -- it goes on, from its slot to its end
-  pub further : (k pos′ old′ : ℕ) → phase ≢ 0 → 2 ≤ k → k ≤ 7 → pos′ ≤ len → (k ≡ 2 → pos′ < len)
-      → WordWhole n old′ → WriterWhole n c k last hand pos′ len old′ ended
+  pub further : (k pos′ old′ : ℕ) → phase ≢ 0 → 2 ≤ k → k ≤ 7 → pos′ ≤ len
+      → (k ≡ 2 → pos′ < len) → WordWhole n old′ → WriterWhole n c k last hand pos′ len old′ ended
   further k pos′ old′ busy lo hi part copying before =
       record {
         phases = hi;

@@ -64,7 +64,8 @@ module _ {sizing : ℕ} {first : Record} where
   not-yet phase l = record { bound = λ x. absurd (omega arith); copied = λ x. absurd (omega arith) }
 
   -- so that what is asked may be shown from its size step on
-  pub from-sizing : {begin now phase len pos number size its-number : ℕ} {writes : List Write} {mine words : ℕ → ℕ}
+  pub from-sizing : {begin now phase len pos number size its-number : ℕ} {writes : List Write}
+      {mine words : ℕ → ℕ}
       → (sizing ≤ phase → Reading sizing first begin now writes phase len pos number mine size its-number words)
       → Reading sizing first begin now writes phase len pos number mine size its-number words
   from-sizing v = record { bound = λ x. v x .bound x; copied = λ x. v (omega arith) .copied x }

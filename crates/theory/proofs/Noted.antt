@@ -1,5 +1,5 @@
 -- What one more move leaves alone in a history. It holds of any register.
---     moves-noted, began-kept, steps-kept   one move more; begins and steps of all but the process that moves
+--     Beside, beside                      one move more; begins and steps of all but the process that moves
 --     OfReader, WritesKept, writes-kept   the deeds of a reader: they leave all that is told of writes
 --     OfWriter, reads-kept, needs-none    the deeds of the writer: they leave the finished reads, and need nothing
 --     reading-noted                       a read under way is placed as it was
@@ -29,39 +29,26 @@ pub data OfWriter (going publishing ending : Type 0) : Deed → Type 0 where
   publishes-it : publishing → OfWriter going publishing ending (published false)
   ends-write : ending → OfWriter going publishing ending write-ended
 
+-- one move later, and the begins and steps of all but process p as they were
+pub record Beside (h h′ : History) (p : ℕ) : Type 0 where
+  pub moves : h′ .moves ≡ suc (h .moves)
+  pub began : (q : ℕ) → q ≢ p → h′ .began q ≡ h .began q
+  pub steps : (q : ℕ) → q ≢ p → h′ .steps q ≡ h .steps q
+
 pub record WritesKept (h h′ : History) : Type 0 where
   pub looks : h′ .looks ≡ h .looks
   pub given : h′ .given ≡ h .given
   pub writes : h′ .writes ≡ h .writes
 
 module _ (total : ℕ) (h : History) (p : ℕ) where
-  pub moves-noted : (d : Deed) → noted total h p d .moves ≡ suc (h .moves)
-  moves-noted read-began = refl
-  moves-noted (write-began v) = refl
-  moves-noted (went-on k) = refl
-  moves-noted looked = refl
-  moves-noted (published ended) = refl
-  moves-noted (read-ended g) = refl
-  moves-noted write-ended = refl
-
-  module _ (q : ℕ) (other : q ≢ p) where
-    pub began-kept : (d : Deed) → noted total h p d .began q ≡ h .began q
-    began-kept read-began = miss q p other (h .moves) (h .began q)
-    began-kept (write-began v) = miss q p other (h .moves) (h .began q)
-    began-kept (went-on k) = refl
-    began-kept looked = refl
-    began-kept (published ended) = refl
-    began-kept (read-ended g) = refl
-    began-kept write-ended = refl
-
-    pub steps-kept : (d : Deed) → noted total h p d .steps q ≡ h .steps q
-    steps-kept read-began = miss q p other 0 (h .steps q)
-    steps-kept (write-began v) = miss q p other 0 (h .steps q)
-    steps-kept (went-on k) = miss q p other (suc (h .steps p)) (h .steps q)
-    steps-kept looked = miss q p other (suc (h .steps p)) (h .steps q)
-    steps-kept (published ended) = miss q p other (suc (h .steps p)) (h .steps q)
-    steps-kept (read-ended g) = miss q p other (suc (h .steps p)) (h .steps q)
-    steps-kept write-ended = miss q p other (suc (h .steps p)) (h .steps q)
+  pub beside : (d : Deed) → Beside h (noted total h p d) p
+  beside read-began = record { moves = refl; began = λ q d. miss q p d _ _; steps = λ q d. miss q p d _ _ }
+  beside (write-began v) = record { moves = refl; began = λ q d. miss q p d _ _; steps = λ q d. miss q p d _ _ }
+  beside (went-on k) = record { moves = refl; began = λ q d. refl; steps = λ q d. miss q p d _ _ }
+  beside looked = record { moves = refl; began = λ q d. refl; steps = λ q d. miss q p d _ _ }
+  beside (published ended) = record { moves = refl; began = λ q d. refl; steps = λ q d. miss q p d _ _ }
+  beside (read-ended g) = record { moves = refl; began = λ q d. refl; steps = λ q d. miss q p d _ _ }
+  beside write-ended = record { moves = refl; began = λ q d. refl; steps = λ q d. miss q p d _ _ }
 
   pub writes-kept : {going : Type 0} {ending : Got → Type 0} {d : Deed} → OfReader going ending d
       → WritesKept h (noted total h p d)

@@ -62,7 +62,8 @@ apply-append m (x ∷ s) t = apply-append (changed m (x .place) (x .value)) s t
 
 -- stores to places that all pass a test leave a place alone that fails it
 pub apply-apart : (test : Place → Bool) (m : Memory) (stores : List Store)
-    → all (map (λ s. test (s .place)) stores) ≡ true → (q : Place) → test q ≡ false → apply m stores q ≡ m q
+    → all (map (λ s. test (s .place)) stores) ≡ true → (q : Place) → test q ≡ false
+    → apply m stores q ≡ m q
 apply-apart test m [] e q f = refl
 apply-apart test m (s ∷ l) e q f =
     let (here, rest) = both (test (s .place)) (all (map (λ s. test (s .place)) l)) (true-passes _ e) in
