@@ -77,20 +77,12 @@ module _ (n : ℕ) (first : Record) where
     reader-own : {r : ℕ} {d : Deed} {m′ : Memory} → r < n → ReaderDoes n m r d m′
         → Each ReadExact (noted all-moves h r d .reads) × ReaderAt m′ (noted all-moves h r d) r
     reader-own {r} l (Moves.read-starts e) = (v .reads, rw (eqb-same r) first-step)
-    reader-own {r} l (Moves.finds-same e x) = (
-      v .reads,
-      rw (eqb-same r)
-          (step-binds (v .reader r l) (inl (omega (arith, v .reader r l .early (omega arith) (omega arith))))),
-    )
+    reader-own {r} l (Moves.finds-same e x) = (v .reads, rw (eqb-same r) (step-binds (v .reader r l) (inl e)))
     reader-own {r} l (Moves.finds-other e x) =
         (v .reads, rw (eqb-same r) (step-on (v .reader r l) 2 (omega arith) (omega arith) (omega arith)))
     reader-own {r} l (Moves.leaves-slot e x) =
         (v .reads, rw (eqb-same r) (step-on (v .reader r l) 3 (omega arith) (omega arith) (omega arith)))
-    reader-own {r} l (Moves.joins-slot e x) = (
-      v .reads,
-      rw (eqb-same r)
-          (step-binds (v .reader r l) (inr (omega (arith, v .reader r l .early (omega arith) (omega arith))))),
-    )
+    reader-own {r} l (Moves.joins-slot e x) = (v .reads, rw (eqb-same r) (step-binds (v .reader r l) (inr e)))
     reader-own {r} l (Moves.takes-none e x) = (
       also {x = the-read all-moves h r (got-now m (m (slot-write-number (m (last r)))) [])}
           (ends-exactly (v .reader r l) 0 (omega arith) (v .reader r l .bound e)) (v .reads),
@@ -109,13 +101,10 @@ module _ (n : ℕ) (first : Record) where
     module _ (g : Guarded n m) (w : Told n first m h) where
       published-now : m writer-phase ≡ 6 → WriteSteps n all-moves (the-write all-moves h n false)
       published-now e =
-          record {
-            looks = v .writer .few (omega arith);
-            most =
-                let few = v .writer .few (omega arith) in
-                omega (arith, v .writer .rest (omega arith) (omega arith), w .writer .has (omega arith) .0);
-            exact = λ l. absurd (omega arith);
-          }
+          let few = v .writer .few (omega arith) in
+          let rest = v .writer .rest (omega arith) (omega arith) in
+          let has = w .writer .has (omega arith) .0 in
+          record { looks = few; most = omega arith; exact = λ l. absurd (omega arith) }
 
       writer-own : {c : ℕ} {d : Deed} {m′ : Memory} → WriterDoes n c m d m′
           → Each (WriteSteps n all-moves) (noted all-moves h n d .writes) × WriterAt m′ (noted all-moves h n d)
@@ -159,6 +148,7 @@ module _ (n : ℕ) (first : Record) where
           let f = reader-leaves x in
           let b = beside all-moves h r d in
           let k = writes-kept all-moves h r (reader-seen x) in
+          let still = b .steps n (λ z. omega arith) in
           record {
             reads = reads;
             writes = rw (k .writes) (v .writes);
@@ -166,15 +156,7 @@ module _ (n : ℕ) (first : Record) where
                 (λ q i other.
                 rw (b .steps q other, f .desk 0 q 0 other, f .desk 2 q 0 other) (v .reader q i));
             writer =
-                rw (
-                  k .looks,
-                  b .steps n (λ z. omega arith),
-                  f .writer 0 0,
-                  f .writer 2 0,
-                  f .writer 4 0,
-                  f .writer 3 0,
-                  k .writes,
-                ) (v .writer);
+                rw (k .looks, still, f .writer 0 0, f .writer 2 0, f .writer 4 0, f .writer 3 0, k .writes) (v .writer);
           }
       keeps-bounds (by-writer {d = d} x) =
           let (writes, own) = writer-own x in

@@ -15,15 +15,15 @@ use lib.Dec.{eqb}
 use borrow.Author.Tests.{eq-eqb, ne-eqb}
 use Rattle.theory.specs.Place.{Record, Memory}
 use Rattle.register.specs.Area.{writer-phase}
-use Rattle.theory.specs.History.{Got, Deed, Event, Read, Write, History, closed, noted, the-read, the-write}
+use Rattle.theory.specs.History.{Deed, Event, Read, Write, History, closed, noted, the-read, the-write}
 use Rattle.theory.specs.Lists.{Each, none, also}
 use Rattle.atomic.specs.Demands.{later-published}
 use Rattle.atomic.proofs.Counts.{all-later, not-counted, closed-counted}
 use Rattle.theory.proofs.Tests.{each-follows}
-use Rattle.theory.proofs.Noted.{begins-read, goes-on, ends-read}
+use Rattle.theory.proofs.Noted.{beside, writes-kept, begins-read, goes-on, ends-read}
 use Rattle.theory.proofs.Noted.{begins-write, looks-on, writes-on, publishes-it, ends-write}
 use Rattle.atomic.proofs.Moves.{Does, by-reader, by-writer}
-use Rattle.atomic.proofs.Frames.{reader-leaves, ReadEnded, ReaderSeen, reader-seen}
+use Rattle.atomic.proofs.Frames.{reader-leaves, ReaderSeen, reader-seen}
 use Rattle.atomic.proofs.Frames.{WriterGoes, WriterSeen, writer-seen}
 use Rattle.theory.proofs.Copying.{Writing}
 use Rattle.atomic.proofs.Told.{Told}
@@ -104,24 +104,15 @@ module _ (n : ℕ) (first : Record) (total : ℕ) {m : Memory} {h : History} (w 
   same-ages : Each (AgedRead (suc (h .moves)) (h .writes)) (h .reads)
   same-ages = ages-kept (h .moves) (h .writes) (h .writes) (h .reads) (λ k j l. refl) (v .ages)
 
-  -- a read that ends now
-  one-age : {m′ : Memory} {g : Got} (r : ℕ) → ReadEnded m m′ r g
-      → Each (AgedRead (suc (h .moves)) (h .writes)) (the-read total h r g ∷ h .reads)
-  one-age {g = g} r x =
-      also {x = the-read total h r g}
-      (record {
-        past = omega arith;
-        own = x .own;
-        age = x .age ∙ ap (λ k. k - g .number) (published-now (w .writer))
-            ∙ sym (all-later (g .number) (h .moves) (h .writes) (v .times));
-      }) same-ages
-
-  -- a move of a reader, with the reads that have ended by then
-  reader-on : {m′ : Memory} (h′ : History) → h′ .moves ≡ suc (h .moves) → h′ .writes ≡ h .writes
-      → m′ writer-phase ≡ m writer-phase → Each (AgedRead (suc (h .moves)) (h .writes)) (h′ .reads)
-      → Dated total m′ h′
-  reader-on h′ em ew ep ages =
-      record { ends = rw (em, ew, ep) (ends-later (v .ends)); times = rw (em, ew) times-on; ages = rw (em, ew) ages }
+  -- the finished reads after a move of a reader
+  reader-ages : {m′ : Memory} {d : Deed} (r : ℕ) → ReaderSeen m m′ r d
+      → Each (AgedRead (suc (h .moves)) (h .writes)) (noted total h r d .reads)
+  reader-ages r (begins-read x) = same-ages
+  reader-ages r (goes-on x) = same-ages
+  reader-ages r (ends-read {g = g} x) =
+      let age = x .age ∙ ap (λ k. k - g .number) (published-now (w .writer))
+      ∙ sym (all-later (g .number) (h .moves) (h .writes) (v .times)) in
+      also {x = the-read total h r g} (record { past = omega arith; own = x .own; age = age }) same-ages
 
   -- a move of the writer that publishes nothing and ends nothing
   writer-on : {m′ : Memory} (h′ : History) → h′ .moves ≡ suc (h .moves) → h′ .writes ≡ h .writes
@@ -140,12 +131,6 @@ module _ (n : ℕ) (first : Record) (total : ℕ) {m : Memory} {h : History} (w 
   closing {now = now} k e (one-open {writes = writes} e′ still past) =
       let past′ : now < suc now = omega arith in
       all-ended (λ z. omega arith) (also past′ (past-later now writes past))
-
-  reader-dates : {m′ : Memory} {d : Deed} (r : ℕ) → m′ writer-phase ≡ m writer-phase → ReaderSeen m m′ r d
-      → Dated total m′ (noted total h r d)
-  reader-dates r same (begins-read x) = reader-on _ refl refl same same-ages
-  reader-dates r same (goes-on x) = reader-on _ refl refl same same-ages
-  reader-dates r same (ends-read x) = reader-on _ refl refl same (one-age r x)
 
   writer-dates : {m′ : Memory} {d : Deed} → WriterSeen m m′ d → Dated total m′ (noted total h n d)
   writer-dates (begins-write x) = writer-on _ refl refl refl x
@@ -170,5 +155,12 @@ module _ (n : ℕ) (first : Record) (total : ℕ) {m : Memory} {h : History} (w 
 
   pub keeps-dates : {c : ℕ} {m′ : Memory} {e : Event} → Does n c m e m′
       → Dated total m′ (noted total h (e .who) (e .what))
-  keeps-dates (by-reader {r = r} l x) = reader-dates r (reader-leaves x .writer 0 0) (reader-seen x)
+  keeps-dates (by-reader {r = r} {d = d} l x) =
+      let b = beside total h r d in
+      let k = writes-kept total h r (reader-seen x) in
+      record {
+        ends = rw (b .moves, k .writes, reader-leaves x .writer 0 0) (ends-later (v .ends));
+        times = rw (b .moves, k .writes) times-on;
+        ages = rw (b .moves, k .writes) (reader-ages r (reader-seen x));
+      }
   keeps-dates (by-writer x) = writer-dates (writer-seen x)

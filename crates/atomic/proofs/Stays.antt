@@ -50,7 +50,8 @@ module _ (n c : ℕ) (big : n < 4294967296) {m : Memory} (v : Whole n c m) where
 
     -- step 5
     copying : (k flag : ℕ) → m (phase r) ≡ 5 → flag ≤ 1 → k ≤ 5
-        → (k ≡ 5 → suc (m (pos r)) < m (len r)) → DeskWhole n c k (m (last r)) (suc (m (pos r))) (m (len r)) flag
+        → (k ≡ 5 → suc (m (pos r)) < m (len r))
+        → DeskWhole n c k (m (last r)) (suc (m (pos r))) (m (len r)) flag
     copying k flag e fl hi more =
         record { phases = hi; slot = d .slot; part = d .copying e; words = d .words; flag = fl; copying = more }
 
