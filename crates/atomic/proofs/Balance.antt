@@ -3,7 +3,7 @@
 --     one-leaves, one-joins               reader steps 2 and 3
 --     write-begins                        the writer begins, and some slot is free
 --     hand-free, hand-held                writer step 1: the slot in hand is free, or it is not and is not the last
---     hand-filled                         writer steps 2 to 5
+--     hand-alone, hand-filled             writer steps 2 to 5
 --     hand-published, old-frozen          writer steps 6 and 7
 -- n readers; `here` and `counted` are the index and the counter of the current word, `old` and `frozen` those of the
 -- old word; `started` and `gone` are r_start and r_end of each slot, `bound` is how many readers are bound to it; the
@@ -154,6 +154,20 @@ module _ {n here counted : ℕ} {started gone bound : ℕ → ℕ} {phase last h
       go away (filling p q a w h g z f) settled = absurd (omega arith)
       go away (told p q a h g x) settled = absurd (omega arith)
 
+  -- in phases 2 to 6 the slot in hand is the one away; it is not the current one, and nobody is bound to it
+  pub hand-alone : 2 ≤ phase → phase ≤ 6
+      → (last ≡ here) × (b .away ≡ hand) × (hand < n + 2) × (hand ≢ here) × (bound hand ≡ 0)
+      × (6 ≤ phase → gone hand ≡ 0)
+  hand-alone lo hi = go (b .stage)
+    where
+      go : {away : ℕ} → Stage n here gone bound phase last hand old frozen away
+          → (last ≡ here) × (away ≡ hand) × (hand < n + 2) × (hand ≢ here) × (bound hand ≡ 0)
+          × (6 ≤ phase → gone hand ≡ 0)
+      go (idle p q a) = absurd (omega arith)
+      go (scanning p q a s h g j z) = absurd (omega arith)
+      go (filling p q a w h g z f) = (a, w, h, g, z, f)
+      go (told p q a h g x) = absurd (omega arith)
+
   -- writer steps 2 to 5: the slot in hand is filled, and its counts cleared
   pub hand-filled : (started′ gone′ : ℕ → ℕ) (phase′ : ℕ) → 2 ≤ phase → phase ≤ 5
       → 2 ≤ phase′ → phase′ ≤ 6 → (6 ≤ phase′ → gone′ hand ≡ 0)
@@ -161,43 +175,28 @@ module _ {n here counted : ℕ} {started gone bound : ℕ → ℕ} {phase last h
       → ((s : ℕ) → s ≢ hand → gone′ s ≡ gone s)
       → Balance n here counted started′ gone′ bound phase′ last hand old frozen
   hand-filled started′ gone′ phase′ lo hi lo′ hi′ clear same-started same-gone =
-      go (b .away) (b .stage) (b .settled)
-    where
-      go : (away : ℕ) → Stage n here gone bound phase last hand old frozen away
-          → Settled n here started gone bound away
-          → Balance n here counted started′ gone′ bound phase′ last hand old frozen
-      go away (idle p q a) settled = absurd (omega arith)
-      go away (scanning p q a s h g j z) settled = absurd (omega arith)
-      go away (filling p q a w h g z f) settled =
-          record {
-            away = away;
-            slot = b .slot;
-            stage = filling lo′ hi′ a w h g z clear;
-            now = omega (arith, b .now, same-gone here (λ x. g (sym x)));
-            settled = λ k h′ p′ q′.
-                let d : k ≢ hand = λ x. q′ (x ∙ sym w) in
-                omega (arith, settled k h′ p′ q′, same-started k d, same-gone k d);
-          }
-      go away (told p q a h g x) settled = absurd (omega arith)
+      let (a, w, h, g, z, f) = hand-alone lo (omega arith) in
+      record {
+        away = b .away;
+        slot = b .slot;
+        stage = filling lo′ hi′ a w h g z clear;
+        now = omega (arith, b .now, same-gone here (λ x. g (sym x)));
+        settled = λ k h′ p′ q′.
+            let d : k ≢ hand = λ x. q′ (x ∙ sym w) in
+            omega (arith, b .settled k h′ p′ q′, same-started k d, same-gone k d);
+      }
 
   -- writer step 6: the slot in hand becomes the current one, and the old word keeps the counter of the one before
   pub hand-published : phase ≡ 6 → Balance n hand 0 started gone bound 7 last hand here counted
-  hand-published e = go (b .away) (b .stage) (b .settled)
-    where
-      go : (away : ℕ) → Stage n here gone bound phase last hand old frozen away
-          → Settled n here started gone bound away
-          → Balance n hand 0 started gone bound 7 last hand here counted
-      go away (idle p q a) settled = absurd (omega arith)
-      go away (scanning p q a s h g j z) settled = absurd (omega arith)
-      go away (filling p q a w h g z f) settled =
-          record {
-            away = here;
-            slot = h;
-            stage = told refl refl refl (b .slot) (λ x. g (sym x)) (b .now);
-            now = omega (arith, f (omega arith));
-            settled = λ s h′ p′ q′. settled s h′ q′ (λ x. p′ (x ∙ w));
-          }
-      go away (told p q a h g x) settled = absurd (omega arith)
+  hand-published e =
+      let (a, w, h, g, z, f) = hand-alone (omega arith) (omega arith) in
+      record {
+        away = here;
+        slot = h;
+        stage = told refl refl refl (b .slot) (λ x. g (sym x)) (b .now);
+        now = omega (arith, z, f (omega arith));
+        settled = λ s h′ p′ q′. b .settled s h′ q′ (λ x. p′ (x ∙ w));
+      }
 
   -- writer step 7: the old slot's r_start becomes the old word's counter
   pub old-frozen : (started′ : ℕ → ℕ) → phase ≡ 7

@@ -1,22 +1,25 @@
 -- Form 1 only: nobody has gone from the current slot, and nobody is about to, so that the counter stays within N.
+--     Clean, stays-clean                  this, and that every accepted move keeps it
+--     guards                              with the counts, the record of facts that all above rests on
 -- Assumes nothing.
 use mathlib.Core.Path.{_≡_, sym}
 use mathlib.Core.Logic.{_≢_}
-use mathlib.Core.Bool.{cond}
-use mathlib.Core.List.{_++_}
-use Prim.Native.Nat.{ℕ, suc, _*_, _<_}
+use Prim.Native.Nat.{ℕ, _*_, _<_}
 use native.Mathlib.Omega.{arith}
-use lib.Dec.{eqb}
-use borrow.Author.Tests.{ne-eqb}
-use Rattle.theory.specs.Place.{Memory, apply}
-use Rattle.register.specs.Area.{current, index, r-end, phase, last, in-hand}
-use Rattle.register.specs.Steps.{sets-phase, unbinds, takes, copies, finishes}
-use Rattle.theory.specs.History.{Event}
-use Rattle.theory.proofs.Tests.{eqb-same, at-each}
+use Rattle.theory.specs.Place.{Memory}
+use Rattle.register.specs.Area.{current, index, r-end, phase, last, writer-phase, in-hand}
+use Rattle.theory.specs.History.{Deed, Event}
+use Rattle.register.specs.Conditions.{Whole}
+use Rattle.theory.proofs.Tests.{not-differ-and-same, eqb-same, at-each}
+use Rattle.theory.proofs.Noted.{begins-write, looks-on, writes-on, publishes-it, ends-write}
 use Rattle.atomic.proofs.Moves
-use Rattle.atomic.proofs.Moves.{Does}
+use Rattle.atomic.proofs.Moves.{ReaderDoes, Does, by-reader, by-writer}
+use Rattle.atomic.proofs.Frames.{reader-leaves}
+use Rattle.atomic.proofs.Frames.{Unfilled, WriterLeaves, writer-leaves, WriterSeen, writer-seen}
 use Rattle.atomic.proofs.Counting.{Counted}
-use Rattle.atomic.proofs.Held.{unheld, hand-apart, none-gone}
+use Rattle.atomic.proofs.Balance.{hand-alone}
+use Rattle.atomic.proofs.Held.{unheld, scan-within, more-slots, end-room, counter-room}
+use Rattle.atomic.proofs.Guarded.{Guarded}
 
 -- a reader that is about to leave is not bound to the current slot
 abbrev pub Turned : Memory → ℕ → Type 0
@@ -27,83 +30,62 @@ pub record Clean (n : ℕ) (m : Memory) : Type 0 where
   pub turned : (r : ℕ) → r < n → Turned m r
 
 module _ (n : ℕ) (big : n < 4294967296) {m : Memory} (i : Counted n m) (v : Clean n m) where
-  -- a reader goes to a phase k other than 2
-  not-leaving : {k l c : ℕ} → k ≢ 2 → k ≡ 2 → l ≢ c
-  not-leaving d e = absurd (d e)
+  -- a reader that goes to a phase other than 2, and one that goes to phase 2
+  reader-turned : {r : ℕ} {d : Deed} {m′ : Memory} → ReaderDoes n m r d m′ → Turned m′ r
+  reader-turned {r} (Moves.read-starts e) = rw (eqb-same r) (λ y. absurd (omega arith))
+  reader-turned {r} (Moves.finds-same e x) = rw (eqb-same r) (λ y. absurd (omega arith))
+  reader-turned {r} (Moves.finds-other e x) = rw (eqb-same r) (λ y z. x (sym z))
+  reader-turned {r} (Moves.leaves-slot e x) = rw (eqb-same r) (λ y. absurd (omega arith))
+  reader-turned {r} (Moves.joins-slot e x) = rw (eqb-same r) (λ y. absurd (omega arith))
+  reader-turned {r} (Moves.takes-none e x) = rw (eqb-same r) (λ y. absurd (omega arith))
+  reader-turned {r} (Moves.takes-size e x) = rw (eqb-same r) (λ y. absurd (omega arith))
+  reader-turned (Moves.copies-word e x) = λ y. absurd (omega arith)
+  reader-turned {r} (Moves.copies-last e x) = rw (eqb-same r) (λ y. absurd (omega arith))
 
-  pub stays-clean : {c : ℕ} {m′ : Memory} {e : Event} → Does n c m e m′ → Clean n m′
-  stays-clean (Moves.read-starts r l e) =
+  -- the writer publishes nothing
+  not-published : {m′ : Memory} → WriterLeaves m m′ → m writer-phase ≢ 6 → Clean n m′
+  not-published f d =
+      let away : Unfilled m (index (m current)) = λ lo hi e. hand-alone (i .counts) lo (omega arith) .3 (sym e) in
       record {
-        nobody = v .nobody;
-        turned = at-each (Turned (apply m (sets-phase r 1))) r (rw (eqb-same r) (not-leaving (λ z. omega arith)))
-            (λ q k d. rw (ne-eqb q r d) (v .turned q k));
+        nobody = rw (f .word d, f .end (index (m current)) away) (v .nobody);
+        turned = λ q k. rw (f .desk 0 q 0, f .desk 1 q 0, f .word d) (v .turned q k);
       }
-  stays-clean (Moves.finds-same r l e x) =
-      record {
-        nobody = v .nobody;
-        turned = at-each (Turned (apply m (sets-phase r 4))) r (rw (eqb-same r) (not-leaving (λ z. omega arith)))
-            (λ q k d. rw (ne-eqb q r d) (v .turned q k));
-      }
-  stays-clean (Moves.finds-other r l e x) =
-      record {
-        nobody = v .nobody;
-        turned = at-each (Turned (apply m (sets-phase r 2))) r (rw (eqb-same r) (λ y z. x (sym z)))
-            (λ q k d. rw (ne-eqb q r d) (v .turned q k));
-      }
-  stays-clean (Moves.leaves-slot r l e x) =
-      record {
-        nobody = rw (ne-eqb (index (m current)) (m (last r)) (λ y. v .turned r l e (sym y))) (v .nobody);
-        turned = at-each (Turned (apply m (unbinds m r))) r (rw (eqb-same r) (not-leaving (λ z. omega arith)))
-            (λ q k d. rw (ne-eqb q r d) (v .turned q k));
-      }
-  stays-clean (Moves.joins-slot r l e x) =
-      let same : index (suc (m current)) ≡ index (m current) = omega arith in
-      record {
-        nobody = rw same (v .nobody);
-        turned = λ q k. rw same (at-each Joined r (rw (eqb-same r) (not-leaving (λ z. omega arith)))
-            (λ p h d. rw (ne-eqb p r d) (v .turned p h)) q k);
-      }
-    where
-      Joined : ℕ → Type 0
-      Joined q =
-          cond (eqb q r) 4 (m (phase q)) ≡ 2 → cond (eqb q r) (index (m current)) (m (last q)) ≢ index (m current)
-  stays-clean (Moves.takes-none r l e x) =
-      record {
-        nobody = v .nobody;
-        turned = at-each (Turned (apply m (takes m r ++ finishes r))) r
-            (rw (eqb-same r) (not-leaving (λ z. omega arith)))
-            (λ q k d. rw (ne-eqb q r d) (v .turned q k));
-      }
-  stays-clean (Moves.takes-size r l e x) =
-      record {
-        nobody = v .nobody;
-        turned = at-each (Turned (apply m (takes m r ++ sets-phase r 5))) r
-            (rw (eqb-same r) (not-leaving (λ z. omega arith)))
-            (λ q k d. rw (ne-eqb q r d) (v .turned q k));
-      }
-  stays-clean (Moves.copies-word r l e x) = record { nobody = v .nobody; turned = v .turned }
-  stays-clean (Moves.copies-last r l e x) =
-      record {
-        nobody = v .nobody;
-        turned = at-each (Turned (apply m (copies m r ++ finishes r))) r
-            (rw (eqb-same r) (not-leaving (λ z. omega arith)))
-            (λ q k d. rw (ne-eqb q r d) (v .turned q k));
-      }
-  stays-clean (Moves.write-starts u l e more) = record { nobody = v .nobody; turned = v .turned }
-  stays-clean (Moves.picks-empty e d x y) = record { nobody = v .nobody; turned = v .turned }
-  stays-clean (Moves.picks-slot e d x y) = record { nobody = v .nobody; turned = v .turned }
-  stays-clean (Moves.passes-slot e d x) = record { nobody = v .nobody; turned = v .turned }
-  stays-clean (Moves.fills-word e x) = record { nobody = v .nobody; turned = v .turned }
-  stays-clean (Moves.fills-last e x) = record { nobody = v .nobody; turned = v .turned }
-  stays-clean (Moves.sets-size e) = record { nobody = v .nobody; turned = v .turned }
-  stays-clean (Moves.clears-first e) = record { nobody = v .nobody; turned = v .turned }
-  stays-clean (Moves.clears-second e) =
-      let apart : index (m current) ≢ m in-hand = λ y. hand-apart n m i (omega arith) (omega arith) (sym y) in
-      record { nobody = rw (ne-eqb (index (m current)) (m in-hand) apart) (v .nobody); turned = v .turned }
-  stays-clean (Moves.exchanges e) =
+
+  writer-clean : {d : Deed} {m′ : Memory} → WriterLeaves m m′ → WriterSeen m m′ d → Clean n m′
+  writer-clean f (begins-write x) = not-published f (λ e. omega (arith, x .before))
+  writer-clean f (looks-on x) = not-published f (λ e. omega (arith, x .before))
+  writer-clean f (writes-on x) = not-published f (λ e. omega (arith, x .before))
+  writer-clean f (publishes-it x) =
+      let e = x .before in
       let same : index (m in-hand * 4294967296) ≡ m in-hand = omega arith in
       record {
-        nobody = rw same (none-gone n m i e);
-        turned = λ q k y. rw same (unheld n m i (omega arith) (omega arith) q k (λ z. omega arith));
+        nobody = rw (x .new, same, f .end (m in-hand) (λ lo hi. absurd (omega arith)))
+            (hand-alone (i .counts) (omega arith) (omega arith) .5 (omega arith));
+        turned = λ q k. rw (f .desk 0 q 0, f .desk 1 q 0, x .new, same)
+            (λ y. unheld n m i (omega arith) (omega arith) q k (λ z. omega arith));
       }
-  stays-clean (Moves.write-ends e) = record { nobody = v .nobody; turned = v .turned }
+  writer-clean f (ends-write x) = not-published f (λ e. omega (arith, x .before))
+
+  pub stays-clean : {c : ℕ} {m′ : Memory} {e : Event} → Does n c m e m′ → Clean n m′
+  stays-clean {m′ = m′} (by-reader {r = r} l x) =
+      let f = reader-leaves x in
+      record {
+        nobody = rw (f .slot big, f .end (index (m current)) (λ e y. v .turned r l e (sym y))) (v .nobody);
+        turned = at-each (Turned m′) r (reader-turned x)
+            (λ q k d. rw (f .desk 0 q 0 d, f .desk 1 q 0 d, f .slot big) (v .turned q k));
+      }
+  stays-clean (by-writer x) = writer-clean (writer-leaves x) (writer-seen x)
+
+-- clean counts on an undamaged memory are all that is needed above them
+pub guards : {n c : ℕ} {m : Memory} → Counted n m → Clean n m → Whole n c m → Guarded n m
+guards {n} {c} {m} i v whole =
+    record {
+      hand-apart = λ lo hi e. hand-alone (i .counts) lo (omega arith) .3 (sym e);
+      unheld = λ r l y lo hi. unheld n m i lo (omega arith) r l (λ z. omega arith);
+      scan-within = scan-within n m i;
+      more-slots = λ e taken. more-slots n m i e (not-differ-and-same _ _ _ _ taken);
+      end-room = λ r l e.
+          end-room n m i r l e (v .turned r l e) (whole .slot (m (last r)) (whole .desk r l .slot) .start)
+          (whole .writer .before .count);
+      counter-room = λ r l e. counter-room n m i (v .nobody) r l e;
+    }

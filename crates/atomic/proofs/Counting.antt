@@ -4,10 +4,9 @@
 --     Counts, Counted                     the balance of a memory; the counting invariant
 --     keeps-counts                        every accepted move keeps it
 -- Assumes nothing.
-use mathlib.Core.Path.{_≡_, refl, sym, subst, subst₂, _∙_, fun-ext}
+use mathlib.Core.Path.{_≡_, refl, sym, subst, subst₂, transport, _∙_, fun-ext}
 use mathlib.Core.Logic.{_≢_}
 use mathlib.Core.Bool.{Bool, true, false, cond}
-use mathlib.Core.List.{_++_}
 use Prim.Native.Nat.{ℕ, zero, suc, _+_, _*_, _≤_, _<_}
 use native.Mathlib.Decide.{ℕ-discrete}
 use native.Mathlib.Omega.{arith}
@@ -16,13 +15,13 @@ use borrow.Author.Tests.{ne-eqb}
 use Rattle.theory.specs.Place.{Memory, apply}
 use Rattle.register.specs.Area.{current, index, counter, r-start, r-end, phase, last, writer-phase, last-slot}
 use Rattle.register.specs.Area.{in-hand, old-word}
-use Rattle.register.specs.Steps.{sets-phase, unbinds, binds, takes, copies, finishes, clears-start, clears-end}
-use Rattle.register.specs.Steps.{publishes, freezes}
-use Rattle.theory.specs.History.{Event}
-use Rattle.theory.proofs.Tests.{hit, miss, eqb-same, same-either}
+use Rattle.register.specs.Steps.{unbinds, binds, clears-start, clears-end, freezes}
+use Rattle.theory.specs.History.{Deed, Event}
+use Rattle.theory.proofs.Tests.{hit, miss, eqb-same, same-either, at-each}
 use Rattle.theory.proofs.Sums.{sum, sum-one, sum-same, sum-at-most, sum-zero, sum-ones, sum-swap}
 use Rattle.atomic.proofs.Moves
-use Rattle.atomic.proofs.Moves.{Does}
+use Rattle.atomic.proofs.Moves.{ReaderDoes, WriterDoes, Does, by-reader, by-writer, to-phase}
+use Rattle.atomic.proofs.Frames.{ReaderLeaves, reader-leaves, WriterLeaves, writer-leaves}
 use Rattle.atomic.proofs.Balance.{Balance, one-leaves, one-joins, write-begins, hand-free, hand-held}
 use Rattle.atomic.proofs.Balance.{hand-filled}
 use Rattle.atomic.proofs.Balance.{hand-published, old-frozen}
@@ -76,27 +75,22 @@ module _ (n : ℕ) where
       omega (arith, sum-swap k n share, once, sum-ones n)
 
   -- reader r moved
-  moved : (m m′ : Memory) (r : ℕ) → r < n → ((q : ℕ) → q ≢ r → m′ (phase q) ≡ m (phase q))
-      → ((q : ℕ) → q ≢ r → m′ (last q) ≡ m (last q)) → (s : ℕ)
+  moved : {m m′ : Memory} {r : ℕ} → ReaderLeaves n m m′ r → r < n → (s : ℕ)
       → bound n m′ s + is-bound s (m (phase r)) (m (last r))
       ≡ bound n m s + is-bound s (m′ (phase r)) (m′ (last r))
   unfolding bound
-  moved m m′ r h ep el s =
+  moved {m} {m′} {r} f h s =
       sum-one n (λ q. is-bound s (m′ (phase q)) (m′ (last q))) (λ q. is-bound s (m (phase q)) (m (last q))) r h
-      (λ q d. rw (ep q d, el q d))
+      (λ q d. rw (f .desk 0 q 0 d, f .desk 1 q 0 d))
 
-  -- reader r moved to phase p, and is bound as before
-  quiet : (m m′ : Memory) (r p : ℕ) → r < n → m (phase r) ≢ 3 → p ≢ 3
-      → ((q : ℕ) → m′ (phase q) ≡ cond (eqb q r) p (m (phase q)))
-      → ((q : ℕ) → m′ (last q) ≡ m (last q)) → bound n m′ ≡ bound n m
-  quiet m m′ r p h d d′ ep el =
+  -- the writer moved
+  same-bound : {m m′ : Memory} → WriterLeaves m m′ → bound n m′ ≡ bound n m
+  unfolding bound
+  same-bound {m} {m′} f =
       fun-ext
-      (λ s. omega (arith, moved m m′ r h (λ q x. ep q ∙ miss q r x p (m (phase q))) (λ q x. el q) s, alike s))
-    where
-      alike : (s : ℕ) → is-bound s (m (phase r)) (m (last r)) ≡ is-bound s (m′ (phase r)) (m′ (last r))
-      alike s =
-          let here : ℕ = cond (eqb (m (last r)) s) 1 0 in
-          rw (el r, ep r ∙ hit r p (m (phase r))) (miss (m (phase r)) 3 d 0 here ∙ sym (miss p 3 d′ 0 here))
+      (λ s.
+      sum-same n (λ r. is-bound s (m′ (phase r)) (m′ (last r))) (λ r. is-bound s (m (phase r)) (m (last r)))
+      (λ r h. rw (f .desk 0 r 0, f .desk 1 r 0)))
 
   abbrev pub Counts : Memory → (ℕ → ℕ) → Type 0
   Counts m bound =
@@ -109,193 +103,148 @@ module _ (n : ℕ) where
     pub lasts : (r : ℕ) → r < n → m (last r) < n + 2
     pub counts : Counts m (bound n m)
 
-  -- a reader that stays bound as it was
-  stays : (m : Memory) (m′ : Memory) → ((r : ℕ) → r < n → m′ (last r) < n + 2)
-      → bound n m′ ≡ bound n m → Counts m′ (bound n m)
-      → Counted m′
-  stays m m′ lasts same counts = record { lasts = lasts; counts = subst (Counts m′) (sym same) counts }
+  -- ---- a reader
 
-  -- reader step 2
-  leaving : (m : Memory) (r : ℕ) → r < n → m (phase r) ≡ 2 → Counted m → Counted (apply m (unbinds m r))
-  leaving m r h e v =
-      record {
-        lasts = v .lasts;
-        counts = one-leaves (v .counts) (λ s. m′ (r-end s)) (bound n m′) l
-            (λ s d. miss s l d (suc (m (r-end l))) (m (r-end s)))
-            (λ s d. omega (arith, change s, bound-away s (m (phase r)) l (λ x. d (sym x)), gone s))
-            (hit l (suc (m (r-end l))) (m (r-end l)))
-            (omega (arith, change l, bound-here l (m (phase r)) l (λ x. omega arith) refl, gone l));
-      }
-    where
-      l : ℕ
-      l = m (last r)
+  module _ {m : Memory} {r : ℕ} (v : Counted m) (h : r < n) where
+    -- it neither leaves nor joins a slot
+    stays : {m′ : Memory} → ReaderLeaves n m m′ r → (2 ≤ m (phase r) → 4 ≤ m (phase r))
+        → m′ (last r) ≡ m (last r)
+        → ((s : ℕ) → is-bound s (m (phase r)) (m (last r)) ≡ is-bound s (m′ (phase r)) (m′ (last r)))
+        → Counted m′
+    stays {m′} f neither same-last alike =
+        record {
+          lasts = at-each (λ q. m′ (last q) < n + 2) r (rw same-last (v .lasts r h))
+              (λ q k d. rw (f .desk 1 q 0 d) (v .lasts q k));
+          counts = transport (sym same) (v .counts);
+        }
+      where
+        same : Counts m′ (bound n m′) ≡ Counts m (bound n m)
+        same = λ i.
+            Balance n (index (word i)) (counter (word i)) (λ s. f .start s i)
+            (λ s. f .end s (λ e. absurd (omega (arith, neither (omega arith)))) i) (λ s. all s i) (f .writer 0 0 i)
+            (f .writer 1 0 i) (f .writer 2 0 i) (index (f .writer 5 0 i)) (counter (f .writer 5 0 i))
+          where
+            word : m′ current ≡ m current
+            word = f .word (λ e. omega (arith, neither (omega arith)))
 
-      m′ : Memory
-      m′ = apply m (unbinds m r)
+            all : (s : ℕ) → bound n m′ s ≡ bound n m s
+            all s = omega (arith, moved f h s, alike s)
 
-      change : (s : ℕ) → bound n m′ s + is-bound s (m (phase r)) l ≡ bound n m s + is-bound s (m′ (phase r)) l
-      change s = moved m m′ r h (λ q d. miss q r d 3 (m (phase q))) (λ q d. refl) s
+    -- step 2
+    leaving : m (phase r) ≡ 2 → ReaderLeaves n m (apply m (unbinds m r)) r → Counted (apply m (unbinds m r))
+    leaving e f =
+        record {
+          lasts = v .lasts;
+          counts = one-leaves (v .counts) (λ s. m′ (r-end s)) (bound n m′) l
+              (λ s d. f .end s (λ z. d))
+              (λ s d. omega (arith, moved f h s, bound-away s (m (phase r)) l (λ x. d (sym x)), gone s))
+              (hit l (suc (m (r-end l))) (m (r-end l)))
+              (omega (arith, moved f h l, bound-here l (m (phase r)) l (λ x. omega arith) refl, gone l));
+        }
+      where
+        l : ℕ
+        l = m (last r)
 
-      gone : (s : ℕ) → is-bound s (m′ (phase r)) l ≡ 0
-      gone s = unbound s (m′ (phase r)) l (hit r 3 (m (phase r)))
+        m′ : Memory
+        m′ = apply m (unbinds m r)
 
-  -- reader step 3
-  joining : (m : Memory) (r : ℕ) → r < n → n < 4294967296 → m (phase r) ≡ 3 → counter (m current) < n
-      → Counted m → Counted (apply m (binds m r))
-  joining m r h big e x v =
-      record {
-        lasts = λ q k. at q k (ℕ-discrete q r);
-        counts = subst₂ at-word (sym same) (sym more)
-            (one-joins (v .counts) (bound n m′)
-            (λ s d.
-            omega (arith, change s, gone s, bound-away s (m′ (phase r)) (m′ (last r)) (λ y. d (sym y ∙ here))))
-            (omega (arith, change i, gone i, bound-here i (m′ (phase r)) (m′ (last r)) turned here)));
-      }
-    where
-      i : ℕ
-      i = index (m current)
+        gone : (s : ℕ) → is-bound s (m′ (phase r)) l ≡ 0
+        gone s = unbound s (m′ (phase r)) l (hit r 3 (m (phase r)))
 
-      m′ : Memory
-      m′ = apply m (binds m r)
+    -- step 3
+    joining : n < 4294967296 → m (phase r) ≡ 3 → counter (m current) < n
+        → ReaderLeaves n m (apply m (binds m r)) r → Counted (apply m (binds m r))
+    joining big e x f =
+        record {
+          lasts = at-each (λ q. m′ (last q) < n + 2) r (rw here (v .counts .slot))
+              (λ q k d. rw (f .desk 1 q 0 d) (v .lasts q k));
+          counts = subst₂ at-word (sym (f .slot big)) (sym more)
+              (one-joins (v .counts) (bound n m′)
+              (λ s d.
+              let away = bound-away s (m′ (phase r)) (m′ (last r)) (λ y. d (sym y ∙ here)) in
+              omega (arith, moved f h s, gone s, away))
+              (omega (arith, moved f h i, gone i, bound-here i (m′ (phase r)) (m′ (last r)) turned here)));
+        }
+      where
+        i : ℕ
+        i = index (m current)
 
-      at-word : ℕ → ℕ → Type 0
-      at-word i k =
-          Balance n i k (λ s. m (r-start s)) (λ s. m (r-end s)) (bound n m′) (m writer-phase) (m last-slot)
-          (m in-hand) (index (m old-word)) (counter (m old-word))
+        m′ : Memory
+        m′ = apply m (binds m r)
 
-      turned : m′ (phase r) ≢ 3
-      turned y = omega (arith, hit r 4 (m (phase r)))
+        at-word : ℕ → ℕ → Type 0
+        at-word i k =
+            Balance n i k (λ s. m (r-start s)) (λ s. m (r-end s)) (bound n m′) (m writer-phase) (m last-slot)
+            (m in-hand) (index (m old-word)) (counter (m old-word))
 
-      same : index (suc (m current)) ≡ index (m current)
-      same = omega arith
+        turned : m′ (phase r) ≢ 3
+        turned y = omega (arith, hit r 4 (m (phase r)))
 
-      more : counter (suc (m current)) ≡ suc (counter (m current))
-      more = omega arith
+        more : counter (suc (m current)) ≡ suc (counter (m current))
+        more = omega arith
 
-      here : m′ (last r) ≡ i
-      here = hit r (index (suc (m current))) (m (last r)) ∙ same
+        here : m′ (last r) ≡ i
+        here = hit r (index (suc (m current))) (m (last r)) ∙ f .slot big
 
-      change : (s : ℕ) → bound n m′ s + is-bound s (m (phase r)) (m (last r))
-          ≡ bound n m s + is-bound s (m′ (phase r)) (m′ (last r))
-      change s =
-          moved m m′ r h (λ q d. miss q r d 4 (m (phase q)))
-          (λ q d. miss q r d (index (suc (m current))) (m (last q))) s
+        gone : (s : ℕ) → is-bound s (m (phase r)) (m (last r)) ≡ 0
+        gone s = unbound s (m (phase r)) (m (last r)) e
 
-      gone : (s : ℕ) → is-bound s (m (phase r)) (m (last r)) ≡ 0
-      gone s = unbound s (m (phase r)) (m (last r)) e
+    reader-counts : {d : Deed} {m′ : Memory} → n < 4294967296 → ReaderDoes n m r d m′
+        → ReaderLeaves n m m′ r → Counted m′
+    reader-counts big (Moves.read-starts e) f = stays f (λ y. omega arith) refl (λ s. rw (eqb-same r, e))
+    reader-counts big (Moves.finds-same e x) f = stays f (λ y. omega arith) refl (λ s. rw (eqb-same r, e))
+    reader-counts big (Moves.finds-other e x) f = stays f (λ y. omega arith) refl (λ s. rw (eqb-same r, e))
+    reader-counts big (Moves.leaves-slot e x) f = leaving e f
+    reader-counts big (Moves.joins-slot e x) f = joining big e x f
+    reader-counts big (Moves.takes-none e x) f = stays f (λ y. omega arith) refl (λ s. rw (eqb-same r, e))
+    reader-counts big (Moves.takes-size e x) f = stays f (λ y. omega arith) refl (λ s. rw (eqb-same r, e))
+    reader-counts big (Moves.copies-word e x) f = stays f (λ y. omega arith) refl (λ s. refl)
+    reader-counts big (Moves.copies-last e x) f = stays f (λ y. omega arith) refl (λ s. rw (eqb-same r, e))
 
-      at : (q : ℕ) → q < n → Dec (q ≡ r) → m′ (last q) < n + 2
-      at q k (yes y) = rw y (rw here (v .counts .slot))
-      at q k (no y) = rw (miss q r y (index (suc (m current))) (m (last q))) (v .lasts q k)
+  -- ---- the writer: the readers are bound as they were
 
-  -- writer steps 2 and 3
-  filling-on : (m : Memory) (k : ℕ) → 2 ≤ m writer-phase → m writer-phase ≤ 5 → 2 ≤ k → k ≤ 5
-      → Counts m (bound n m)
-      → Balance n (index (m current)) (counter (m current)) (λ s. m (r-start s)) (λ s. m (r-end s)) (bound n m) k
-      (m last-slot) (m in-hand) (index (m old-word)) (counter (m old-word))
-  filling-on m k lo hi lo′ hi′ b =
-      hand-filled b (λ s. m (r-start s)) (λ s. m (r-end s)) k lo hi lo′ (omega arith) (λ y. absurd (omega arith))
-      (λ s d. refl) (λ s d. refl)
+  module _ {m : Memory} (v : Counted m) where
+    -- steps 2 and 3, to phase k
+    filling-on : (k : ℕ) → 2 ≤ m writer-phase → m writer-phase ≤ 5 → 2 ≤ k → k ≤ 5
+        → Counts (apply m (to-phase k)) (bound n m)
+    filling-on k lo hi lo′ hi′ =
+        hand-filled (v .counts) (λ s. m (r-start s)) (λ s. m (r-end s)) k lo hi lo′ (omega arith)
+        (λ y. absurd (omega arith)) (λ s d. refl) (λ s d. refl)
 
-  -- writer steps 4 and 5
-  clearing : (m : Memory) → m writer-phase ≡ 4 → Counted m → Counted (apply m (clears-start m))
-  unfolding bound
-  clearing m e v =
-      record {
-        lasts = v .lasts;
-        counts =
-            hand-filled (v .counts) (λ s. apply m (clears-start m) (r-start s)) (λ s. m (r-end s)) 5 (omega arith)
-            (omega arith) (omega arith) (omega arith) (λ y. absurd (omega arith))
-            (λ s d. miss s (m in-hand) d _ (m (r-start s))) (λ s d. refl);
-      }
-
-  cleared : (m : Memory) → m writer-phase ≡ 5 → Counted m → Counted (apply m (clears-end m))
-  unfolding bound
-  cleared m e v =
-      record {
-        lasts = v .lasts;
-        counts = hand-filled (v .counts) (λ s. m (r-start s)) (λ s. apply m (clears-end m) (r-end s)) 6 (omega arith)
-            (omega arith) (omega arith) (omega arith) (λ y. hit (m in-hand) 0 (m (r-end (m in-hand)))) (λ s d. refl)
-            (λ s d. miss s (m in-hand) d _ (m (r-end s)));
-      }
-
-  -- writer step 7
-  freezing : (m : Memory) → m writer-phase ≡ 7 → Counted m → Counted (apply m (freezes m))
-  unfolding bound
-  freezing m e v =
-      let old = index (m old-word) in
-      record {
-        lasts = v .lasts;
-        counts = old-frozen (v .counts) (λ s. apply m (freezes m) (r-start s)) e
-            (λ s d. miss s old d (counter (m old-word)) (m (r-start s)))
-            (hit old (counter (m old-word)) (m (r-start old)));
-      }
-
-  -- writer step 6
-  publishing : (m : Memory) → m writer-phase ≡ 6 → Counts m (bound n m)
-      → Counts (apply m (publishes m)) (bound n m)
-  publishing m e b =
-      let i : index (m in-hand * 4294967296) ≡ m in-hand = omega arith in
-      let k : counter (m in-hand * 4294967296) ≡ 0 = omega arith in
-      rw (i, k) (hand-published b e)
+    writer-counts : {c : ℕ} {d : Deed} {m′ : Memory} → WriterDoes n c m d m′ → WriterLeaves m m′
+        → Counts m′ (bound n m)
+    writer-counts (Moves.write-starts u h e full) f = write-begins (v .counts) e (bound-few m (n + 2))
+    writer-counts (Moves.picks-empty e d x y) f = hand-free (v .counts) 3 (omega arith) (omega arith) e d x
+    writer-counts (Moves.picks-slot e d x y) f = hand-free (v .counts) 2 (omega arith) (omega arith) e d x
+    writer-counts (Moves.passes-slot e d x) f = hand-held (v .counts) e d .0
+    writer-counts (Moves.fills-word e x) f = filling-on 2 (omega arith) (omega arith) (omega arith) (omega arith)
+    writer-counts (Moves.fills-last e x) f = filling-on 3 (omega arith) (omega arith) (omega arith) (omega arith)
+    writer-counts (Moves.sets-size e) f = filling-on 4 (omega arith) (omega arith) (omega arith) (omega arith)
+    writer-counts (Moves.clears-first e) f =
+        hand-filled (v .counts) (λ s. apply m (clears-start m) (r-start s)) (λ s. m (r-end s)) 5 (omega arith)
+        (omega arith) (omega arith) (omega arith) (λ y. absurd (omega arith))
+        (λ s d. f .start s (λ lo hi. d) (λ y. absurd (omega arith))) (λ s d. refl)
+    writer-counts (Moves.clears-second e) f =
+        hand-filled (v .counts) (λ s. m (r-start s)) (λ s. apply m (clears-end m) (r-end s)) 6 (omega arith)
+        (omega arith) (omega arith) (omega arith) (λ y. hit (m in-hand) 0 (m (r-end (m in-hand)))) (λ s d. refl)
+        (λ s d. f .end s (λ lo hi. d))
+    writer-counts (Moves.exchanges e) f =
+        let i : index (m in-hand * 4294967296) ≡ m in-hand = omega arith in
+        let k : counter (m in-hand * 4294967296) ≡ 0 = omega arith in
+        rw (i, k) (hand-published (v .counts) e)
+    writer-counts (Moves.write-ends e) f =
+        let old = index (m old-word) in
+        old-frozen (v .counts) (λ s. apply m (freezes m) (r-start s)) e
+        (λ s d. f .start s (λ lo hi. absurd (omega arith)) (λ y. d))
+        (hit old (counter (m old-word)) (m (r-start old)))
 
   -- every accepted move keeps the counts
   pub keeps-counts : n < 4294967296 → {c : ℕ} {m m′ : Memory} {e : Event} → Counted m → Does n c m e m′
       → Counted m′
-  unfolding bound
-  keeps-counts big {m = m} v (Moves.read-starts r h e) =
-      stays m (apply m (sets-phase r 1)) (v .lasts)
-      (quiet m (apply m (sets-phase r 1)) r 1 h (λ x. omega arith) (λ x. omega arith) (λ q. refl) (λ q. refl))
-      (v .counts)
-  keeps-counts big {m = m} v (Moves.finds-same r h e x) =
-      stays m (apply m (sets-phase r 4)) (v .lasts)
-      (quiet m (apply m (sets-phase r 4)) r 4 h (λ y. omega arith) (λ y. omega arith) (λ q. refl) (λ q. refl))
-      (v .counts)
-  keeps-counts big {m = m} v (Moves.finds-other r h e x) =
-      stays m (apply m (sets-phase r 2)) (v .lasts)
-      (quiet m (apply m (sets-phase r 2)) r 2 h (λ y. omega arith) (λ y. omega arith) (λ q. refl) (λ q. refl))
-      (v .counts)
-  keeps-counts big v (Moves.leaves-slot r h e x) = leaving _ r h e v
-  keeps-counts big v (Moves.joins-slot r h e x) = joining _ r h big e x v
-  keeps-counts big {m = m} v (Moves.takes-none r h e x) =
-      let m′ : Memory = apply m (takes m r ++ finishes r) in
-      stays m m′ (v .lasts) (quiet m m′ r 0 h (λ y. omega arith) (λ y. omega arith) (λ q. refl) (λ q. refl))
-      (v .counts)
-  keeps-counts big {m = m} v (Moves.takes-size r h e x) =
-      let m′ : Memory = apply m (takes m r ++ sets-phase r 5) in
-      stays m m′ (v .lasts) (quiet m m′ r 5 h (λ y. omega arith) (λ y. omega arith) (λ q. refl) (λ q. refl))
-      (v .counts)
-  keeps-counts big v (Moves.copies-word r h e x) = record { lasts = v .lasts; counts = v .counts }
-  keeps-counts big {m = m} v (Moves.copies-last r h e x) =
-      let m′ : Memory = apply m (copies m r ++ finishes r) in
-      stays m m′ (v .lasts) (quiet m m′ r 0 h (λ y. omega arith) (λ y. omega arith) (λ q. refl) (λ q. refl))
-      (v .counts)
-  keeps-counts big {m = m} v (Moves.write-starts u h e full) =
-      record { lasts = v .lasts; counts = write-begins (v .counts) e (bound-few m (n + 2)) }
-  keeps-counts big v (Moves.picks-empty e d x y) =
-      record { lasts = v .lasts; counts = hand-free (v .counts) 3 (omega arith) (omega arith) e d x }
-  keeps-counts big v (Moves.picks-slot e d x y) =
-      record { lasts = v .lasts; counts = hand-free (v .counts) 2 (omega arith) (omega arith) e d x }
-  keeps-counts big v (Moves.passes-slot e d x) = record { lasts = v .lasts; counts = hand-held (v .counts) e d .0 }
-  keeps-counts big {m = m} v (Moves.fills-word e x) =
+  keeps-counts big v (by-reader h x) = reader-counts v h big x (reader-leaves x)
+  keeps-counts big {m′ = m′} v (by-writer x) =
+      let f = writer-leaves x in
       record {
-        lasts = v .lasts;
-        counts = filling-on m 2 (omega arith) (omega arith) (omega arith) (omega arith)
-            (v .counts);
+        lasts = λ r l. rw (f .desk 1 r 0) (v .lasts r l);
+        counts = subst (Counts m′) (sym (same-bound f)) (writer-counts v x f);
       }
-  keeps-counts big {m = m} v (Moves.fills-last e x) =
-      record {
-        lasts = v .lasts;
-        counts = filling-on m 3 (omega arith) (omega arith) (omega arith) (omega arith)
-            (v .counts);
-      }
-  keeps-counts big {m = m} v (Moves.sets-size e) =
-      record {
-        lasts = v .lasts;
-        counts = filling-on m 4 (omega arith) (omega arith) (omega arith) (omega arith)
-            (v .counts);
-      }
-  keeps-counts big {m = m} v (Moves.clears-first e) = clearing m e v
-  keeps-counts big {m = m} v (Moves.clears-second e) = cleared m e v
-  keeps-counts big {m = m} v (Moves.exchanges e) = record { lasts = v .lasts; counts = publishing m e (v .counts) }
-  keeps-counts big {m = m} v (Moves.write-ends e) = freezing m e v

@@ -14,14 +14,17 @@ use native.Mathlib.Omega.{arith}
 use lib.Dec.{eqb}
 use borrow.Author.Tests.{eq-eqb, ne-eqb}
 use Rattle.theory.specs.Place.{Record, Memory}
-use Rattle.register.specs.Area.{slot-write-number, last, desk-write-number, writer-phase}
-use Rattle.theory.specs.History.{Event, Read, Write, History, closed, noted, the-read, the-write}
+use Rattle.register.specs.Area.{writer-phase}
+use Rattle.theory.specs.History.{Deed, Event, Read, Write, History, closed, noted, the-read, the-write}
 use Rattle.theory.specs.Lists.{Each, none, also}
 use Rattle.atomic.specs.Demands.{later-published}
 use Rattle.atomic.proofs.Counts.{all-later, not-counted, closed-counted}
 use Rattle.theory.proofs.Tests.{each-follows}
-use Rattle.atomic.proofs.Moves
-use Rattle.atomic.proofs.Moves.{Does, got-now}
+use Rattle.theory.proofs.Noted.{beside, writes-kept, begins-read, goes-on, ends-read}
+use Rattle.theory.proofs.Noted.{begins-write, looks-on, writes-on, publishes-it, ends-write}
+use Rattle.atomic.proofs.Moves.{Does, by-reader, by-writer}
+use Rattle.atomic.proofs.Frames.{reader-leaves, ReaderSeen, reader-seen}
+use Rattle.atomic.proofs.Frames.{WriterGoes, WriterSeen, writer-seen}
 use Rattle.theory.proofs.Copying.{Writing}
 use Rattle.atomic.proofs.Told.{Told}
 
@@ -101,30 +104,22 @@ module _ (n : ℕ) (first : Record) (total : ℕ) {m : Memory} {h : History} (w 
   same-ages : Each (AgedRead (suc (h .moves)) (h .writes)) (h .reads)
   same-ages = ages-kept (h .moves) (h .writes) (h .writes) (h .reads) (λ k j l. refl) (v .ages)
 
-  -- a read that ends now with write number k
-  one-age : (r k : ℕ) (u : Record)
-      → Each (AgedRead (suc (h .moves)) (h .writes)) (the-read total h r (got-now m k u) ∷ h .reads)
-  one-age r k u =
-      also {x = the-read total h r (got-now m k u)}
-      (record {
-        past = omega arith;
-        own = refl;
-        age = ap (λ x. x - k) (published-now (w .writer)) ∙ sym (all-later k (h .moves) (h .writes) (v .times));
-      }) same-ages
-
-  -- a move of a reader, with the reads that have ended by then
-  reader-on : {m′ : Memory} (h′ : History) → h′ .moves ≡ suc (h .moves) → h′ .writes ≡ h .writes
-      → m′ writer-phase ≡ m writer-phase → Each (AgedRead (suc (h .moves)) (h .writes)) (h′ .reads)
-      → Dated total m′ h′
-  reader-on h′ em ew ep ages =
-      record { ends = rw (em, ew, ep) (ends-later (v .ends)); times = rw (em, ew) times-on; ages = rw (em, ew) ages }
+  -- the finished reads after a move of a reader
+  reader-ages : {m′ : Memory} {d : Deed} (r : ℕ) → ReaderSeen m m′ r d
+      → Each (AgedRead (suc (h .moves)) (h .writes)) (noted total h r d .reads)
+  reader-ages r (begins-read x) = same-ages
+  reader-ages r (goes-on x) = same-ages
+  reader-ages r (ends-read {g = g} x) =
+      let age = x .age ∙ ap (λ k. k - g .number) (published-now (w .writer))
+      ∙ sym (all-later (g .number) (h .moves) (h .writes) (v .times)) in
+      also {x = the-read total h r g} (record { past = omega arith; own = x .own; age = age }) same-ages
 
   -- a move of the writer that publishes nothing and ends nothing
   writer-on : {m′ : Memory} (h′ : History) → h′ .moves ≡ suc (h .moves) → h′ .writes ≡ h .writes
-      → h′ .reads ≡ h .reads → m writer-phase ≢ 7 → m′ writer-phase ≢ 7 → Dated total m′ h′
-  writer-on h′ em ew er d d′ =
+      → h′ .reads ≡ h .reads → WriterGoes m m′ → Dated total m′ h′
+  writer-on h′ em ew er x =
       record {
-        ends = rw (em, ew) (all-ended d′ (all-past d (v .ends)));
+        ends = rw (em, ew) (all-ended (x .untold) (all-past (λ z. omega (arith, x .before)) (v .ends)));
         times = rw (em, ew) times-on;
         ages = rw (em, ew, er) same-ages;
       }
@@ -137,40 +132,35 @@ module _ (n : ℕ) (first : Record) (total : ℕ) {m : Memory} {h : History} (w 
       let past′ : now < suc now = omega arith in
       all-ended (λ z. omega arith) (also past′ (past-later now writes past))
 
-  pub keeps-dates : {c : ℕ} {m′ : Memory} {e : Event} → Does n c m e m′
-      → Dated total m′ (noted total h (e .who) (e .what))
-  keeps-dates (Moves.read-starts r l e) = reader-on _ refl refl refl same-ages
-  keeps-dates (Moves.finds-same r l e x) = reader-on _ refl refl refl same-ages
-  keeps-dates (Moves.finds-other r l e x) = reader-on _ refl refl refl same-ages
-  keeps-dates (Moves.leaves-slot r l e x) = reader-on _ refl refl refl same-ages
-  keeps-dates (Moves.joins-slot r l e x) = reader-on _ refl refl refl same-ages
-  keeps-dates (Moves.takes-none r l e x) =
-      reader-on _ refl refl refl (one-age r (m (slot-write-number (m (last r)))) _)
-  keeps-dates (Moves.takes-size r l e x) = reader-on _ refl refl refl same-ages
-  keeps-dates (Moves.copies-word r l e x) = reader-on _ refl refl refl same-ages
-  keeps-dates (Moves.copies-last r l e x) = reader-on _ refl refl refl (one-age r (m (desk-write-number r)) _)
-  keeps-dates (Moves.write-starts u l e more) = writer-on _ refl refl refl (λ z. omega arith) (λ z. omega arith)
-  keeps-dates (Moves.picks-empty e d x y) = writer-on _ refl refl refl (λ z. omega arith) (λ z. omega arith)
-  keeps-dates (Moves.picks-slot e d x y) = writer-on _ refl refl refl (λ z. omega arith) (λ z. omega arith)
-  keeps-dates (Moves.passes-slot e d x) = writer-on _ refl refl refl (λ z. omega arith) (λ z. omega arith)
-  keeps-dates (Moves.fills-word e x) = writer-on _ refl refl refl (λ z. omega arith) (λ z. omega arith)
-  keeps-dates (Moves.fills-last e x) = writer-on _ refl refl refl (λ z. omega arith) (λ z. omega arith)
-  keeps-dates (Moves.sets-size e) = writer-on _ refl refl refl (λ z. omega arith) (λ z. omega arith)
-  keeps-dates (Moves.clears-first e) = writer-on _ refl refl refl (λ z. omega arith) (λ z. omega arith)
-  keeps-dates (Moves.clears-second e) = writer-on _ refl refl refl (λ z. omega arith) (λ z. omega arith)
-  keeps-dates (Moves.exchanges e) =
+  writer-dates : {m′ : Memory} {d : Deed} → WriterSeen m m′ d → Dated total m′ (noted total h n d)
+  writer-dates (begins-write x) = writer-on _ refl refl refl x
+  writer-dates (looks-on x) = writer-on _ refl refl refl x
+  writer-dates (writes-on x) = writer-on _ refl refl refl x
+  writer-dates (publishes-it x) =
       let w′ = the-write total h n false in
       record {
-        ends = one-open refl refl (all-past (λ z. omega arith) (v .ends));
+        ends = one-open (x .after) refl (all-past (λ z. omega (arith, x .before)) (v .ends));
         times = also {x = w′} (omega arith) times-on;
         ages = ages-kept (h .moves) (h .writes) (w′ ∷ h .writes) (h .reads)
             (λ k j l. not-counted k j w′ (h .writes) (omega arith)) (v .ages);
       }
-  keeps-dates (Moves.write-ends e) =
+  writer-dates (ends-write x) =
       let steps = suc (h .steps n) in
       record {
-        ends = closing steps e (v .ends);
+        ends = rw (x .after) (closing steps (x .before) (v .ends));
         times = times-closed (suc (h .moves)) (h .moves) steps (h .writes) times-on;
         ages = ages-kept (h .moves) (h .writes) (closed (h .moves) steps (h .writes)) (h .reads)
             (λ k j l. closed-counted k j (h .moves) steps (h .writes)) (v .ages);
       }
+
+  pub keeps-dates : {c : ℕ} {m′ : Memory} {e : Event} → Does n c m e m′
+      → Dated total m′ (noted total h (e .who) (e .what))
+  keeps-dates (by-reader {r = r} {d = d} l x) =
+      let b = beside total h r d in
+      let k = writes-kept total h r (reader-seen x) in
+      record {
+        ends = rw (b .moves, k .writes, reader-leaves x .writer 0 0) (ends-later (v .ends));
+        times = rw (b .moves, k .writes) times-on;
+        ages = rw (b .moves, k .writes) (reader-ages r (reader-seen x));
+      }
+  keeps-dates (by-writer x) = writer-dates (writer-seen x)

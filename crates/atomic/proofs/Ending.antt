@@ -1,6 +1,6 @@
 -- Every operation ends: on an area that a run left nobody busy is refused, and what is under way is within its bound.
 -- Assumes nothing.
-use mathlib.Core.Path.{_≡_, refl, sym, ap, subst, subst₂, _∙_}
+use mathlib.Core.Path.{_≡_, refl, sym, ap, subst, _∙_}
 use mathlib.Core.Logic.{_≢_}
 use mathlib.Core.Bool.{true}
 use mathlib.Core.List.{List}
@@ -19,13 +19,11 @@ use Rattle.theory.specs.History.{Write, History}
 use Rattle.atomic.specs.Demands.{told, NeverStuck, record-of, Ends}
 use Rattle.theory.proofs.Places.{row, row-length}
 use Rattle.theory.proofs.Placed.{Placed, at-start, at-newest, further-back, Where}
-use Rattle.atomic.proofs.Held.{scan-within}
 use Rattle.register.proofs.Facts.{number-of}
 use Rattle.atomic.proofs.Going.{read-begin-number, write-begin-number, step-number}
 use Rattle.atomic.proofs.StepCounts.{few-early, few-late}
-use Rattle.register.specs.Conditions.{Whole}
-use Rattle.register.proofs.Facts.{its-plan, whole-area}
-use Rattle.atomic.proofs.Promise.{Good, run-ends-good}
+use Rattle.register.proofs.Facts.{its-plan}
+use Rattle.atomic.proofs.Promise.{Good, whole, guarded, run-ends-good}
 
 -- a read shows the record of the write that has its number
 placed-numbered : {first : Record} {begin end back : ℕ} {v : Record} {writes : List Write} (n : ℕ)
@@ -51,9 +49,6 @@ plan-number a x ea es = rw (ea, es) (go (its-plan a x))
 
 module _ {n c : ℕ} {first : Record} {all-moves : ℕ} {a : List ℕ} {h : History}
     (g : Good n c first all-moves a h) where
-  whole : Whole n c (memory a)
-  whole = subst₂ (λ j k. Whole j k (memory a)) (g .its-readers) (g .its-capacity) (whole-area a (g .sound))
-
   goes : NeverStuck n c a
   goes =
       record {
@@ -68,13 +63,13 @@ module _ {n c : ℕ} {first : Record} {all-moves : ℕ} {a : List ℕ} {h : Hist
         steps = λ p.
             plan-number a (step p) (g .area) (g .sound)
             ∙ ap (λ j. number-of (Steps.process-step j (memory a) p)) (g .its-readers)
-            ∙ step-number n c (memory a) (g .counted) whole (g .clean) p;
+            ∙ step-number n c (memory a) (guarded g) (whole g) p;
       }
 
   -- a read under way
   early-on : (r : ℕ) → r < n → memory a (phase r) ≢ 0 → memory a (phase r) ≢ 5 → h .steps r < 4
   early-on r l busy d =
-      let few : memory a (phase r) ≤ 4 = omega (arith, whole .desk r l .phases) in
+      let few : memory a (phase r) ≤ 4 = omega (arith, whole g .desk r l .phases) in
       omega (arith, few-early (g .bounded .reader r l) busy few)
 
   bound-where : (r : ℕ) → r < n → memory a (phase r) ≡ 5
@@ -107,7 +102,7 @@ module _ {n c : ℕ} {first : Record} {all-moves : ℕ} {a : List ℕ} {h : Hist
   looking-on busy = go (ℕ-discrete k 1)
     where
       go : Dec (k ≡ 1) → h .looks ≤ n + 2
-      go (yes e) = omega (arith, g .bounded .writer .scanned e, scan-within n (memory a) (g .counted) e)
+      go (yes e) = omega (arith, g .bounded .writer .scanned e, guarded g .scan-within e)
       go (no d) = g .bounded .writer .few (omega arith)
 
   length-on : k ≢ 0 → memory a writer-len ≡ length (h .given)
@@ -117,12 +112,12 @@ module _ {n c : ℕ} {first : Record} {all-moves : ℕ} {a : List ℕ} {h : Hist
   writing-on busy = subst (λ j. h .steps n < n + j + 7) (length-on busy) few-steps
     where
       go : Dec (k ≡ 1) → Dec (k ≡ 2) → Dec (k ≡ 7) → h .steps n < n + memory a writer-len + 7
-      go (yes e) b d = omega (arith, g .bounded .writer .scanned e, scan-within n (memory a) (g .counted) e)
+      go (yes e) b d = omega (arith, g .bounded .writer .scanned e, guarded g .scan-within e)
       go (no x) (yes e) d =
-          omega (arith, g .bounded .writer .copying e, g .bounded .writer .few (omega arith), whole .writer .part)
+          omega (arith, g .bounded .writer .copying e, g .bounded .writer .few (omega arith), whole g .writer .part)
       go (no x) (no y) (yes e) = omega (arith, g .bounded .writer .told e, g .bounded .writer .few (omega arith))
       go (no x) (no y) (no z) =
-          let hi : k ≤ 6 = omega (arith, whole .writer .phases) in
+          let hi : k ≤ 6 = omega (arith, whole g .writer .phases) in
           omega (arith, g .bounded .writer .rest (omega arith) hi, g .bounded .writer .few (omega arith))
 
       few-steps : h .steps n < n + memory a writer-len + 7

@@ -1,25 +1,22 @@
--- On an area that the counts describe nobody busy is refused: what each plan's number is. Assumes nothing.
+-- On an undamaged memory that is guarded nobody busy is refused: what each plan's number is. Assumes nothing.
 use mathlib.Core.Path.{_≡_, refl}
 use mathlib.Core.Logic.{_≢_}
 use mathlib.Core.Bool.{Bool, true, false, cond}
-use Prim.Native.Nat.{ℕ, suc, _≤_, _<_}
+use Prim.Native.Nat.{ℕ, suc, _<_}
 use native.Mathlib.Omega.{arith}
 use lib.Dec.{eqb, leb, ltb}
 use lib.ListN.{length}
 use borrow.Author.Tests.{eq-eqb, ne-eqb, lt-ltb, le-ltb}
 use Rattle.register.proofs.Facts.{number-of}
 use Rattle.theory.specs.Place.{Record, Memory}
-use Rattle.register.specs.Area.{current, counter, r-start, r-end, size, most-writes, phase, last, pos}
+use Rattle.register.specs.Area.{current, counter, r-end, size, most-writes, phase, last, pos}
 use Rattle.register.specs.Shape.{limit}
 use Rattle.register.specs.Area.{len}
 use Rattle.register.specs.Area.{writer-phase, in-hand, writes-ended}
 use Rattle.register.specs.Steps
 use Rattle.register.specs.Steps.{Plan, refuse, accept, read-begins, write-begins, reader-step, writer-step, free}
 use Rattle.theory.proofs.Tests.{if-true, if-equal, if-less, end, next, at-number}
-use Rattle.theory.proofs.Tests.{not-differ-and-same}
-use Rattle.atomic.proofs.Counting.{Counted}
-use Rattle.atomic.proofs.Held.{more-slots, counter-room, end-room}
-use Rattle.atomic.proofs.Clean.{Clean}
+use Rattle.atomic.proofs.Guarded.{Guarded}
 use Rattle.register.specs.Conditions.{Whole}
 
 module _ (n c : ℕ) (m : Memory) where
@@ -46,7 +43,7 @@ module _ (n c : ℕ) (m : Memory) where
       go true false d = refl
       go false b d = refl
 
-  module _ (i : Counted n m) (w : Whole n c m) (k : Clean n m) where
+  module _ (g : Guarded n m) (w : Whole n c m) where
     -- a step out of phase p, busy or idle
     abbrev Goes-on : ℕ → Plan → Type 0
     Goes-on p x = number-of x ≡ cond (eqb p 0) 6 0
@@ -61,13 +58,12 @@ module _ (n c : ℕ) (m : Memory) where
         (λ e.
         if-less P (m (r-end (m (last r)))) (limit n) (accept (Steps.unbinds m r) false) (refuse 2)
         (λ x. busy (λ z. omega arith))
-        (λ x. absurd
-        (omega (arith, end-room n m i r l e (k .turned r l e) (start-few r l) (w .writer .before .count)))))
+        (λ x. absurd (omega (arith, g .end-room r l e))))
         (next
         (λ e.
         if-less P (counter (m current)) (limit n) (accept (Steps.binds m r) false) (refuse 2)
         (λ x. busy (λ z. omega arith))
-        (λ x. absurd (omega (arith, counter-room n m i (k .nobody) r l e))))
+        (λ x. absurd (omega (arith, g .counter-room r l e))))
         (next (λ e. if-equal P (m (size (m (last r)))) 0 _ _ (λ x. busy (λ z. omega arith))
         (λ x. busy (λ z. omega arith)))
         (next (λ e. if-equal P (suc (m (pos r))) (m (len r)) _ _ (λ x. busy (λ z. omega arith))
@@ -80,9 +76,6 @@ module _ (n c : ℕ) (m : Memory) where
         busy : m (phase r) ≢ 0 → _≡_ {A = ℕ} 0 (cond (eqb (m (phase r)) 0) 6 0)
         busy d = rw (ne-eqb _ _ d)
 
-        start-few : (r : ℕ) → r < n → m (r-start (m (last r))) ≤ n
-        start-few r l = w .slot (m (last r)) (w .desk r l .slot) .start
-
     pub writer-number : Goes-on (m writer-phase) (writer-step n m)
     unfolding writer-step
     writer-number =
@@ -93,7 +86,7 @@ module _ (n c : ℕ) (m : Memory) where
         if-true P (free m) (accept (Steps.picks m) false) _ (λ f. busy (λ z. omega arith))
         (λ f.
         if-equal P (m in-hand) (suc n) (refuse 8) (accept (Steps.passes m) false)
-        (λ x. absurd (more-slots n m i e (not-differ-and-same _ _ _ _ f) x)) (λ x. busy (λ z. omega arith))))
+        (λ x. absurd (g .more-slots e f x)) (λ x. busy (λ z. omega arith))))
         (next (λ e. busy (λ z. omega arith))
         (next (λ e. busy (λ z. omega arith))
         (next (λ e. busy (λ z. omega arith))

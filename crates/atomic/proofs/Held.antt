@@ -12,7 +12,7 @@ use Rattle.register.specs.Area.{current, index, counter, r-start, r-end, phase,
 use Rattle.register.specs.Area.{in-hand, old-word}
 use Rattle.theory.proofs.Tests.{hit, miss}
 use Rattle.theory.proofs.Sums.{sum-one, sum-at-most, sum-member, sum-ones}
-use Rattle.atomic.proofs.Balance.{Stage, idle, scanning, filling, told, Settled, hand-held}
+use Rattle.atomic.proofs.Balance.{Stage, idle, scanning, filling, told, Settled, hand-alone, hand-held}
 use Rattle.atomic.proofs.Counting.{is-bound, bound, bound-here, unbound, bound-at-most, Counted}
 
 module _ (n : ℕ) (m : Memory) where
@@ -59,23 +59,8 @@ module _ (n : ℕ) (m : Memory) where
     -- the slot in the writer's hand has no reader
     pub unheld : 2 ≤ m writer-phase → m writer-phase ≤ 6 → (r : ℕ) → r < n → m (phase r) ≢ 3
         → m (last r) ≢ m in-hand
-    unheld lo hi r h d e = go (v .counts .stage)
-      where
-        go : {away : ℕ} → At-stage away → ⊥
-        go (idle p q a) = omega arith
-        go (scanning p q a s x g j z) = omega arith
-        go (filling p q a w x g z f) = let y : bound n m (m (last r)) ≡ 0 = rw e z in omega (arith, held r h d)
-        go (told p q a x g z) = omega arith
-
-    -- nor is it the current one
-    pub hand-apart : 2 ≤ m writer-phase → m writer-phase ≤ 6 → m in-hand ≢ index (m current)
-    hand-apart lo hi = go (v .counts .stage)
-      where
-        go : {away : ℕ} → At-stage away → m in-hand ≢ index (m current)
-        go (idle p q a) = absurd (omega arith)
-        go (scanning p q a s x g j z) = absurd (omega arith)
-        go (filling p q a w x g z f) = g
-        go (told p q a x g z) = absurd (omega arith)
+    unheld lo hi r h d e =
+        let nobody : bound n m (m (last r)) ≡ 0 = rw e (hand-alone (v .counts) lo hi .4) in omega (arith, held r h d)
 
     -- the scan goes no further than the last slot
     pub scan-within : m writer-phase ≡ 1 → m in-hand < n + 2
@@ -91,16 +76,6 @@ module _ (n : ℕ) (m : Memory) where
     pub more-slots : m writer-phase ≡ 1
         → (m in-hand ≢ m last-slot → m (r-start (m in-hand)) ≢ m (r-end (m in-hand))) → m in-hand ≢ suc n
     more-slots e taken = hand-held (v .counts) e taken .1
-
-    -- what is published has no reader gone
-    pub none-gone : m writer-phase ≡ 6 → m (r-end (m in-hand)) ≡ 0
-    none-gone e = go (v .counts .stage)
-      where
-        go : {away : ℕ} → At-stage away → m (r-end (m in-hand)) ≡ 0
-        go (idle p q a) = absurd (omega arith)
-        go (scanning p q a s x g j z) = absurd (omega arith)
-        go (filling p q a w x g z f) = f (omega arith)
-        go (told p q a x g z) = absurd (omega arith)
 
     -- reader step 3 finds room where nobody has gone from the current slot
     pub counter-room : m (r-end (index (m current))) ≡ 0 → (r : ℕ) → r < n → m (phase r) ≡ 3

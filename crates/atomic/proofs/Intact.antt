@@ -26,7 +26,8 @@ use Rattle.theory.proofs.Places.{row, row-same}
 use Rattle.theory.proofs.Tables.{has-it, store-untouched}
 use Rattle.atomic.proofs.Moves.{desk-record}
 use Rattle.atomic.proofs.Planned.{seen, seen-step}
-use Rattle.atomic.proofs.Others.{busy-in, is-end, works, DeskSame, desk-same, others-same}
+use Rattle.atomic.proofs.Frames.{desk-word}
+use Rattle.atomic.proofs.Others.{busy-in, is-end, works, desk-same, others-same}
 use Rattle.register.proofs.Facts.{its-plan, area-facts, whole-area}
 use Rattle.atomic.proofs.Called.{Opened, opened, refused-keeps, does}
 use Rattle.atomic.proofs.Called.{after-is, after-length}
@@ -111,8 +112,8 @@ module _ {a : List ℕ} {x : Move} (o : Opened a x) where
   of-others-work p l d = busy-after p ∙ others-same (does o .0) p l d
 
   module _ (r : ℕ) (default : Record) (l : r < n) (d : r ≢ mover n x) where
-    same : DeskSame (memory a) m′ r
-    same = desk-same (does o .0) r d
+    same : (f j : ℕ) → m′ (desk-word f r j) ≡ memory a (desk-word f r j)
+    same f j = desk-same (does o .0) f r j d
 
     same-own : is-own b r ≡ is-own a r
     unfolding is-own
@@ -121,15 +122,15 @@ module _ {a : List ℕ} {x : Move} (o : Opened a x) where
         ((after-area o ∙ sym (o .area)) i
         ∷ (after-sound o ∙ sym (o .sound)) i
         ∷ ltb r (after-head o 1 (lit< tt) i)
-        ∷ eqb ((ap (λ m. m (phase r)) (after-memory o) ∙ same .phases) i) 0
-        ∷ eqb ((ap (λ m. m (finished r)) (after-memory o) ∙ same .flag) i) 1
+        ∷ eqb ((ap (λ m. m (phase r)) (after-memory o) ∙ same 0 0) i) 0
+        ∷ eqb ((ap (λ m. m (finished r)) (after-memory o) ∙ same 5 0) i) 1
         ∷ [])
 
     same-record : desk-record m′ r ≡ desk-record (memory a) r
     same-record =
-        ap (λ k. row k (λ j. m′ (read-record r j))) (same .length-word)
+        ap (λ k. row k (λ j. m′ (read-record r j))) (same 3 0)
         ∙ row-same (memory a (len r)) (λ j. m′ (read-record r j)) (λ j. memory a (read-record r j))
-        (λ j h. same .words j)
+        (λ j h. same 6 j)
 
     same-words : words-from b (address (table b) (read-record r 0)) (memory b (len r))
         ≡ words-from a (address (table a) (read-record r 0)) (memory a (len r))

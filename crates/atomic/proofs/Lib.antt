@@ -2,6 +2,8 @@
 mod Counts
 mod Balance
 pub mod Moves
+pub mod Frames
+mod Guarded
 mod Counting
 mod Held
 mod WriterDesk

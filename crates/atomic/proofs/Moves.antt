@@ -1,4 +1,5 @@
--- The accepted moves as a relation on memories: one constructor for each way through the steps. Assumes nothing.
+-- The accepted moves as relations on memories, one constructor for each way through the steps: the moves of a reader,
+-- the moves of the writer, and both together. Assumes nothing.
 use mathlib.Core.Path.{_≡_}
 use mathlib.Core.Logic.{_≢_}
 use mathlib.Core.Bool.{true, false, cond}
@@ -50,43 +51,53 @@ desk-record m r = row (m (len r)) (λ i. m (read-record r i))
 abbrev pub got-now : Memory → ℕ → Record → Got
 got-now m k v = record { age = published-writes m - k; number = k; own = true; shows = v }
 
-pub data Does (n c : ℕ) (m : Memory) : Event → Memory → Type 0 where
-  read-starts : (r : ℕ) → r < n → m (phase r) ≡ 0 → Does n c m (by r read-began) (apply m (sets-phase r 1))
-  finds-same : (r : ℕ) → r < n → m (phase r) ≡ 1 → index (m current) ≡ m (last r)
-      → Does n c m (by r (went-on 1)) (apply m (sets-phase r 4))
-  finds-other : (r : ℕ) → r < n → m (phase r) ≡ 1 → index (m current) ≢ m (last r)
-      → Does n c m (by r (went-on 1)) (apply m (sets-phase r 2))
-  leaves-slot : (r : ℕ) → r < n → m (phase r) ≡ 2 → m (r-end (m (last r))) < limit n
-      → Does n c m (by r (went-on 2)) (apply m (unbinds m r))
-  joins-slot : (r : ℕ) → r < n → m (phase r) ≡ 3 → counter (m current) < limit n
-      → Does n c m (by r (went-on 3)) (apply m (binds m r))
-  takes-none : (r : ℕ) → r < n → m (phase r) ≡ 4 → m (size (m (last r))) ≡ 0
-      → Does n c m (by r (read-ended (got-now m (m (slot-write-number (m (last r)))) [])))
+-- the moves of reader r, one of n
+pub data ReaderDoes (n : ℕ) (m : Memory) (r : ℕ) : Deed → Memory → Type 0 where
+  read-starts : m (phase r) ≡ 0 → ReaderDoes n m r read-began (apply m (sets-phase r 1))
+  finds-same : m (phase r) ≡ 1 → index (m current) ≡ m (last r)
+      → ReaderDoes n m r (went-on 1) (apply m (sets-phase r 4))
+  finds-other : m (phase r) ≡ 1 → index (m current) ≢ m (last r)
+      → ReaderDoes n m r (went-on 1) (apply m (sets-phase r 2))
+  leaves-slot : m (phase r) ≡ 2 → m (r-end (m (last r))) < limit n
+      → ReaderDoes n m r (went-on 2) (apply m (unbinds m r))
+  joins-slot : m (phase r) ≡ 3 → counter (m current) < limit n
+      → ReaderDoes n m r (went-on 3) (apply m (binds m r))
+  takes-none : m (phase r) ≡ 4 → m (size (m (last r))) ≡ 0
+      → ReaderDoes n m r (read-ended (got-now m (m (slot-write-number (m (last r)))) []))
       (apply m (takes m r ++ finishes r))
-  takes-size : (r : ℕ) → r < n → m (phase r) ≡ 4 → m (size (m (last r))) ≢ 0
-      → Does n c m (by r (went-on 4)) (apply m (takes m r ++ sets-phase r 5))
-  copies-word : (r : ℕ) → r < n → m (phase r) ≡ 5 → suc (m (pos r)) ≢ m (len r)
-      → Does n c m (by r (went-on 5)) (apply m (copies m r))
-  copies-last : (r : ℕ) → r < n → m (phase r) ≡ 5 → suc (m (pos r)) ≡ m (len r)
-      → Does n c m (by r (read-ended (got-now m (m (desk-write-number r)) (desk-record (apply m (copies m r)) r))))
+  takes-size : m (phase r) ≡ 4 → m (size (m (last r))) ≢ 0
+      → ReaderDoes n m r (went-on 4) (apply m (takes m r ++ sets-phase r 5))
+  copies-word : m (phase r) ≡ 5 → suc (m (pos r)) ≢ m (len r)
+      → ReaderDoes n m r (went-on 5) (apply m (copies m r))
+  copies-last : m (phase r) ≡ 5 → suc (m (pos r)) ≡ m (len r)
+      → ReaderDoes n m r
+      (read-ended (got-now m (m (desk-write-number r)) (desk-record (apply m (copies m r)) r)))
       (apply m (copies m r ++ finishes r))
+
+-- the moves of the writer, with n readers and records of at most c words
+pub data WriterDoes (n c : ℕ) (m : Memory) : Deed → Memory → Type 0 where
   write-starts : (v : Record) → length v ≤ c → m writer-phase ≡ 0 → m writes-ended < most-writes
-      → Does n c m (by n (write-began v)) (apply (desk-with m v) (sets-out v))
+      → WriterDoes n c m (write-began v) (apply (desk-with m v) (sets-out v))
   picks-empty : m writer-phase ≡ 1 → m in-hand ≢ m last-slot → m (r-start (m in-hand)) ≡ m (r-end (m in-hand))
       → m writer-len ≡ 0
-      → Does n c m (by n looked) (apply m (to-phase 3))
+      → WriterDoes n c m looked (apply m (to-phase 3))
   picks-slot : m writer-phase ≡ 1 → m in-hand ≢ m last-slot → m (r-start (m in-hand)) ≡ m (r-end (m in-hand))
       → m writer-len ≢ 0
-      → Does n c m (by n looked) (apply m (to-phase 2))
+      → WriterDoes n c m looked (apply m (to-phase 2))
   passes-slot : m writer-phase ≡ 1
       → (m in-hand ≢ m last-slot → m (r-start (m in-hand)) ≢ m (r-end (m in-hand))) → m in-hand ≢ suc n
-      → Does n c m (by n looked) (apply m (passes m))
+      → WriterDoes n c m looked (apply m (passes m))
   fills-word : m writer-phase ≡ 2 → suc (m writer-pos) ≢ m writer-len
-      → Does n c m (by n (went-on 2)) (apply m (fills-to m 2))
+      → WriterDoes n c m (went-on 2) (apply m (fills-to m 2))
   fills-last : m writer-phase ≡ 2 → suc (m writer-pos) ≡ m writer-len
-      → Does n c m (by n (went-on 2)) (apply m (fills-to m 3))
-  sets-size : m writer-phase ≡ 3 → Does n c m (by n (went-on 3)) (apply m (sizes m))
-  clears-first : m writer-phase ≡ 4 → Does n c m (by n (went-on 4)) (apply m (clears-start m))
-  clears-second : m writer-phase ≡ 5 → Does n c m (by n (went-on 5)) (apply m (clears-end m))
-  exchanges : m writer-phase ≡ 6 → Does n c m (by n (published false)) (apply m (publishes m))
-  write-ends : m writer-phase ≡ 7 → Does n c m (by n write-ended) (apply m (freezes m))
+      → WriterDoes n c m (went-on 2) (apply m (fills-to m 3))
+  sets-size : m writer-phase ≡ 3 → WriterDoes n c m (went-on 3) (apply m (sizes m))
+  clears-first : m writer-phase ≡ 4 → WriterDoes n c m (went-on 4) (apply m (clears-start m))
+  clears-second : m writer-phase ≡ 5 → WriterDoes n c m (went-on 5) (apply m (clears-end m))
+  exchanges : m writer-phase ≡ 6 → WriterDoes n c m (published false) (apply m (publishes m))
+  write-ends : m writer-phase ≡ 7 → WriterDoes n c m write-ended (apply m (freezes m))
+
+-- an accepted move is a reader's or the writer's
+pub data Does (n c : ℕ) (m : Memory) : Event → Memory → Type 0 where
+  by-reader : {r : ℕ} {d : Deed} {m′ : Memory} → r < n → ReaderDoes n m r d m′ → Does n c m (by r d) m′
+  by-writer : {d : Deed} {m′ : Memory} → WriterDoes n c m d m′ → Does n c m (by n d) m′

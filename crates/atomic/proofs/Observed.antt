@@ -27,13 +27,15 @@ use Rattle.theory.specs.History.{read-ended}
 use Rattle.theory.specs.History.{write-ended}
 use Rattle.atomic.specs.Seen.{reader-deed, writer-deed, event}
 use Rattle.register.specs.Steps.{Move, read, write, step, mover}
-use Rattle.theory.proofs.Tests.{passed, true-passes, all-pass, eqb-same}
+use Rattle.theory.proofs.Tests.{passed, true-passes, all-pass}
 use Rattle.theory.specs.Lists.{none, also}
 use Rattle.theory.proofs.Places.{row-same}
 use Rattle.theory.proofs.Tables.{view-here, words-row}
-use Rattle.register.proofs.Body.{body-read-record}
-use Rattle.atomic.proofs.Moves
-use Rattle.atomic.proofs.Moves.{Does, by, desk-record}
+use Rattle.register.proofs.Form1.{body-read-record}
+use Rattle.theory.proofs.Noted.{begins-read, goes-on, ends-read}
+use Rattle.theory.proofs.Noted.{begins-write, looks-on, writes-on, publishes-it, ends-write}
+use Rattle.atomic.proofs.Moves.{Does, by-reader, by-writer, by, desk-record}
+use Rattle.atomic.proofs.Frames.{reader-leaves, ReaderSeen, reader-seen, WriterSeen, writer-seen}
 use Rattle.atomic.proofs.Planned.{seen, seen-got, seen-reader, seen-writer}
 use Rattle.atomic.proofs.Called.{Opened, does, after-head, after-area, after-view, after-memory, after-exact}
 use Rattle.atomic.proofs.Called.{after-whole, after-sound}
@@ -50,27 +52,24 @@ Says n p (read-ended g) m m′ =
     (m′ (phase p) ≡ 0) × (m′ (finished p) ≡ 1) × (published-writes m′ ≡ published-writes m)
 Says n p write-ended m m′ = m writer-phase ≡ 7
 
+reader-says : {n p : ℕ} {m m′ : Memory} {d : Deed} → p < n → published-writes m′ ≡ published-writes m
+    → ReaderSeen m m′ p d → Says n p d m m′
+reader-says l same (begins-read x) = l
+reader-says l same (goes-on x) = tt
+reader-says l same (ends-read x) = (x .rests, x .flag, same)
+
+writer-says : (n p : ℕ) {m m′ : Memory} {d : Deed} → WriterSeen m m′ d → Says n p d m m′
+writer-says n p (begins-write x) = tt
+writer-says n p (looks-on x) = tt
+writer-says n p (writes-on x) = tt
+writer-says n p (publishes-it x) = refl
+writer-says n p (ends-write x) = x .before
+
 pub says : {n c : ℕ} {m m′ : Memory} {e : Event} → Does n c m e m′ → Says n (e .who) (e .what) m m′
-says (Moves.read-starts r l e) = l
-says (Moves.finds-same r l e x) = tt
-says (Moves.finds-other r l e x) = tt
-says (Moves.leaves-slot r l e x) = tt
-says (Moves.joins-slot r l e x) = tt
-says (Moves.takes-none r l e x) = rw (eqb-same r) (refl, refl, refl)
-says (Moves.takes-size r l e x) = tt
-says (Moves.copies-word r l e x) = tt
-says (Moves.copies-last r l e x) = rw (eqb-same r) (refl, refl, refl)
-says (Moves.write-starts u l e more) = tt
-says (Moves.picks-empty e d x y) = tt
-says (Moves.picks-slot e d x y) = tt
-says (Moves.passes-slot e d x) = tt
-says (Moves.fills-word e x) = tt
-says (Moves.fills-last e x) = tt
-says (Moves.sets-size e) = tt
-says (Moves.clears-first e) = tt
-says (Moves.clears-second e) = tt
-says (Moves.exchanges e) = refl
-says (Moves.write-ends e) = e
+says {n} (by-reader l x) =
+    let f = reader-leaves x in
+    reader-says l (rw (f .writer 6 0, f .writer 0 0)) (reader-seen x)
+says {n} (by-writer x) = writer-says n n (writer-seen x)
 
 -- the record that showing gives is the one in the desk
 pub shows-desk : (a : List ℕ) (r : ℕ) → length a ≡ total (table a) → r < readers a

@@ -7,12 +7,14 @@ use native.Mathlib.Omega.{arith}
 use lib.Dec.{eqb, ltb, nltb→le}
 use borrow.Author.Tests.{ne-eqb, lt-ltb, le-ltb}
 use Rattle.theory.specs.Place.{Memory}
-use Rattle.register.specs.Area.{phase, len, finished, read-record, writer-phase}
+use Rattle.register.specs.Area.{phase, writer-phase}
 use Rattle.theory.specs.History.{Deed, Event, read-began, write-began, went-on, looked, published, read-ended}
 use Rattle.theory.specs.History.{write-ended}
-use Rattle.theory.proofs.Tests.{eqb-same}
-use Rattle.atomic.proofs.Moves
-use Rattle.atomic.proofs.Moves.{Does}
+use Rattle.theory.proofs.Noted.{begins-read, goes-on, ends-read}
+use Rattle.theory.proofs.Noted.{begins-write, looks-on, writes-on, publishes-it, ends-write}
+use Rattle.atomic.proofs.Moves.{Does, by-reader, by-writer}
+use Rattle.atomic.proofs.Frames.{desk-word, reader-leaves, ReaderSeen, reader-seen}
+use Rattle.atomic.proofs.Frames.{writer-leaves, WriterSeen, writer-seen}
 
 -- whether process p is in an operation
 abbrev pub busy-in : ℕ → Memory → ℕ → Bool
@@ -28,102 +30,35 @@ is-end (published ended) = ended
 is-end (read-ended g) = true
 is-end write-ended = true
 
+reader-works : {m m′ : Memory} {r : ℕ} {d : Deed} → ReaderSeen m m′ r d
+    → not (eqb (m′ (phase r)) 0) ≡ not (is-end d)
+reader-works (begins-read busy) = rw (ne-eqb _ _ busy)
+reader-works (goes-on busy) = rw (ne-eqb _ _ busy)
+reader-works (ends-read x) = rw (x .rests)
+
+writer-works : {m m′ : Memory} {d : Deed} → WriterSeen m m′ d
+    → not (eqb (m′ writer-phase) 0) ≡ not (is-end d)
+writer-works (begins-write x) = rw (ne-eqb _ _ (x .busy))
+writer-works (looks-on x) = rw (ne-eqb _ _ (x .busy))
+writer-works (writes-on x) = rw (ne-eqb _ _ (x .busy))
+writer-works (publishes-it x) = rw (x .after)
+writer-works (ends-write x) = rw (x .after)
+
 pub works : {n c : ℕ} {m m′ : Memory} {e : Event} → Does n c m e m′
     → busy-in n m′ (e .who) ≡ not (is-end (e .what))
-works {n = n} (Moves.read-starts r l e) = rw (lt-ltb r n l, eqb-same r)
-works {n = n} (Moves.finds-same r l e x) = rw (lt-ltb r n l, eqb-same r)
-works {n = n} (Moves.finds-other r l e x) = rw (lt-ltb r n l, eqb-same r)
-works {n = n} (Moves.leaves-slot r l e x) = rw (lt-ltb r n l, eqb-same r)
-works {n = n} (Moves.joins-slot r l e x) = rw (lt-ltb r n l, eqb-same r)
-works {n = n} (Moves.takes-none r l e x) = rw (lt-ltb r n l, eqb-same r)
-works {n = n} (Moves.takes-size r l e x) = rw (lt-ltb r n l, eqb-same r)
-works {n = n} (Moves.copies-word r l e x) = rw (lt-ltb r n l, e)
-works {n = n} (Moves.copies-last r l e x) = rw (lt-ltb r n l, eqb-same r)
-works {n = n} (Moves.write-starts u l e more) = rw (le-ltb n n (omega arith))
-works {n = n} (Moves.picks-empty e d x y) = rw (le-ltb n n (omega arith))
-works {n = n} (Moves.picks-slot e d x y) = rw (le-ltb n n (omega arith))
-works {n = n} (Moves.passes-slot e d x) = rw (le-ltb n n (omega arith), e)
-works {n = n} (Moves.fills-word e x) = rw (le-ltb n n (omega arith))
-works {n = n} (Moves.fills-last e x) = rw (le-ltb n n (omega arith))
-works {n = n} (Moves.sets-size e) = rw (le-ltb n n (omega arith))
-works {n = n} (Moves.clears-first e) = rw (le-ltb n n (omega arith))
-works {n = n} (Moves.clears-second e) = rw (le-ltb n n (omega arith))
-works {n = n} (Moves.exchanges e) = rw (le-ltb n n (omega arith))
-works {n = n} (Moves.write-ends e) = rw (le-ltb n n (omega arith))
+works {n = n} (by-reader {r = r} l x) = rw (lt-ltb r n l) (reader-works (reader-seen x))
+works {n = n} (by-writer x) = rw (le-ltb n n (omega arith)) (writer-works (writer-seen x))
 
--- what showing looks at in the desk of reader r
-pub record DeskSame (m m′ : Memory) (r : ℕ) : Type 0 where
-  pub phases : m′ (phase r) ≡ m (phase r)
-  pub flag : m′ (finished r) ≡ m (finished r)
-  pub length-word : m′ (len r) ≡ m (len r)
-  pub words : (j : ℕ) → m′ (read-record r j) ≡ m (read-record r j)
-
-pub desk-same : {n c : ℕ} {m m′ : Memory} {e : Event} → Does n c m e m′ → (r : ℕ) → r ≢ e .who
-    → DeskSame m m′ r
-desk-same (Moves.read-starts q l e) r d =
-    record { phases = rw (ne-eqb r q d); flag = refl; length-word = refl; words = λ j. refl }
-desk-same (Moves.finds-same q l e x) r d =
-    record { phases = rw (ne-eqb r q d); flag = refl; length-word = refl; words = λ j. refl }
-desk-same (Moves.finds-other q l e x) r d =
-    record { phases = rw (ne-eqb r q d); flag = refl; length-word = refl; words = λ j. refl }
-desk-same (Moves.leaves-slot q l e x) r d =
-    record { phases = rw (ne-eqb r q d); flag = refl; length-word = refl; words = λ j. refl }
-desk-same (Moves.joins-slot q l e x) r d =
-    record { phases = rw (ne-eqb r q d); flag = refl; length-word = refl; words = λ j. refl }
-desk-same (Moves.takes-none q l e x) r d =
-    record {
-      phases = rw (ne-eqb r q d);
-      flag = rw (ne-eqb r q d);
-      length-word = rw (ne-eqb r q d);
-      words = λ j. refl;
-    }
-desk-same (Moves.takes-size q l e x) r d =
-    record { phases = rw (ne-eqb r q d); flag = refl; length-word = rw (ne-eqb r q d); words = λ j. refl }
-desk-same (Moves.copies-word q l e x) r d =
-    record { phases = refl; flag = refl; length-word = refl; words = λ j. rw (ne-eqb r q d) }
-desk-same (Moves.copies-last q l e x) r d =
-    record {
-      phases = rw (ne-eqb r q d);
-      flag = rw (ne-eqb r q d);
-      length-word = refl;
-      words = λ j. rw (ne-eqb r q d);
-    }
-desk-same (Moves.write-starts u l e more) r d =
-    record { phases = refl; flag = refl; length-word = refl; words = λ j. refl }
-desk-same (Moves.picks-empty e x y z) r d =
-    record { phases = refl; flag = refl; length-word = refl; words = λ j. refl }
-desk-same (Moves.picks-slot e x y z) r d = record { phases = refl; flag = refl; length-word = refl; words = λ j. refl }
-desk-same (Moves.passes-slot e x y) r d = record { phases = refl; flag = refl; length-word = refl; words = λ j. refl }
-desk-same (Moves.fills-word e x) r d = record { phases = refl; flag = refl; length-word = refl; words = λ j. refl }
-desk-same (Moves.fills-last e x) r d = record { phases = refl; flag = refl; length-word = refl; words = λ j. refl }
-desk-same (Moves.sets-size e) r d = record { phases = refl; flag = refl; length-word = refl; words = λ j. refl }
-desk-same (Moves.clears-first e) r d = record { phases = refl; flag = refl; length-word = refl; words = λ j. refl }
-desk-same (Moves.clears-second e) r d = record { phases = refl; flag = refl; length-word = refl; words = λ j. refl }
-desk-same (Moves.exchanges e) r d = record { phases = refl; flag = refl; length-word = refl; words = λ j. refl }
-desk-same (Moves.write-ends e) r d = record { phases = refl; flag = refl; length-word = refl; words = λ j. refl }
+-- every word of the desk of a reader that does not move
+pub desk-same : {n c : ℕ} {m m′ : Memory} {e : Event} → Does n c m e m′ → (f r j : ℕ) → r ≢ e .who
+    → m′ (desk-word f r j) ≡ m (desk-word f r j)
+desk-same (by-reader l x) f r j d = reader-leaves x .desk f r j d
+desk-same (by-writer x) f r j d = writer-leaves x .desk f r j
 
 writer-same : {n c : ℕ} {m m′ : Memory} {e : Event} → Does n c m e m′ → e .who ≢ n
     → m′ writer-phase ≡ m writer-phase
-writer-same (Moves.read-starts r l e) d = refl
-writer-same (Moves.finds-same r l e x) d = refl
-writer-same (Moves.finds-other r l e x) d = refl
-writer-same (Moves.leaves-slot r l e x) d = refl
-writer-same (Moves.joins-slot r l e x) d = refl
-writer-same (Moves.takes-none r l e x) d = refl
-writer-same (Moves.takes-size r l e x) d = refl
-writer-same (Moves.copies-word r l e x) d = refl
-writer-same (Moves.copies-last r l e x) d = refl
-writer-same (Moves.write-starts u l e more) d = absurd (d refl)
-writer-same (Moves.picks-empty e x y z) d = absurd (d refl)
-writer-same (Moves.picks-slot e x y z) d = absurd (d refl)
-writer-same (Moves.passes-slot e x y) d = absurd (d refl)
-writer-same (Moves.fills-word e x) d = absurd (d refl)
-writer-same (Moves.fills-last e x) d = absurd (d refl)
-writer-same (Moves.sets-size e) d = absurd (d refl)
-writer-same (Moves.clears-first e) d = absurd (d refl)
-writer-same (Moves.clears-second e) d = absurd (d refl)
-writer-same (Moves.exchanges e) d = absurd (d refl)
-writer-same (Moves.write-ends e) d = absurd (d refl)
+writer-same (by-reader l x) d = reader-leaves x .writer 0 0
+writer-same (by-writer x) d = absurd (d refl)
 
 -- nobody else becomes busy or idle
 pub others-same : {n c : ℕ} {m m′ : Memory} {e : Event} → Does n c m e m′ → (p : ℕ) → p ≤ n
@@ -133,7 +68,7 @@ others-same {n = n} {m = m} {m′ = m′} {e = e} x p l d = go (ltb p n) refl
     -- the writer is none of the readers
     go : (t : Bool) → ltb p n ≡ t
         → not (eqb (m′ (cond t (phase p) writer-phase)) 0) ≡ not (eqb (m (cond t (phase p) writer-phase)) 0)
-    go true y = ap (λ k. not (eqb k 0)) (desk-same x p d .phases)
+    go true y = ap (λ k. not (eqb k 0)) (desk-same x 0 p 0 d)
     go false y =
         let here : p ≡ n = omega (arith, nltb→le p n (rw y tt)) in
         ap (λ k. not (eqb k 0)) (writer-same x (λ z. d (here ∙ sym z)))

@@ -34,7 +34,8 @@ use Rattle.theory.proofs.Places.{place-equal, apply-append, copied-elsewhere, c
 use Rattle.register.proofs.Body.{InBody, AllInBody, body-append, body-current, body-slot, body-contents}
 use Rattle.register.proofs.Body.{body-desk, body-read-record, body-writer, body-write-record, body-copied}
 use Rattle.atomic.proofs.Moves
-use Rattle.atomic.proofs.Moves.{Does, by, desk-with, to-phase, fills-to, got-now, desk-record}
+use Rattle.atomic.proofs.Moves.{ReaderDoes, WriterDoes, Does, by-reader, by-writer}
+use Rattle.atomic.proofs.Moves.{by, desk-with, to-phase, fills-to, got-now, desk-record}
 use Rattle.register.specs.Conditions.{Whole}
 
 -- ---- what is seen of a move, from the memories before and after it
@@ -109,22 +110,22 @@ module _ (n c : ℕ) (m : Memory) where
       R = Outcome r (seen-reader m r)
 
       -- a step that ends nothing
-      on : {m′ : Memory} (k : ℕ) → m (phase r) ≡ k → Does n c m (by r (went-on k)) m′
+      on : {m′ : Memory} (k : ℕ) → m (phase r) ≡ k → ReaderDoes n m r (went-on k) m′
           → Does n c m (by r (went-on (m (phase r)))) m′
-      on k e x = renamed (ap went-on (sym e)) x
+      on k e x = renamed (ap went-on (sym e)) (by-reader l x)
 
       comparing : m (phase r) ≡ 1 → R (accept (compares m r) false)
       comparing e =
           if-equal (λ k. R (accept (sets-phase r k) false)) (index (m current)) (m (last r)) 4 2
-          (λ x. (on 1 e (Moves.finds-same r l e x), also (desk 0 tt) none))
-          (λ x. (on 1 e (Moves.finds-other r l e x), also (desk 0 tt) none))
+          (λ x. (on 1 e (Moves.finds-same e x), also (desk 0 tt) none))
+          (λ x. (on 1 e (Moves.finds-other e x), also (desk 0 tt) none))
 
       unbinds : m (phase r) ≡ 2
           → R (cond (ltb (m (r-end (m (last r)))) (limit n)) (accept (Steps.unbinds m r) false) (refuse 2))
       unbinds e =
           if-less R (m (r-end (m (last r)))) (limit n) (accept (Steps.unbinds m r) false) (refuse 2)
           (λ x. (
-            on 2 e (Moves.leaves-slot r l e x),
+            on 2 e (Moves.leaves-slot e x),
             also (body-slot n c 1 (m (last r)) (omega arith) (v .desk r l .slot)) (also (desk 0 tt) none),
           ))
           (λ x y. omega arith)
@@ -134,7 +135,7 @@ module _ (n c : ℕ) (m : Memory) where
       binds e =
           if-less R (counter (m current)) (limit n) (accept (Steps.binds m r) false) (refuse 2)
           (λ x. (
-            on 3 e (Moves.joins-slot r l e x),
+            on 3 e (Moves.joins-slot e x),
             also (body-current n c) (also (desk 1 tt) (also (desk 0 tt) none)),
           ))
           (λ x y. omega arith)
@@ -146,11 +147,11 @@ module _ (n c : ℕ) (m : Memory) where
           if-equal R (m (size (m (last r)))) 0 (accept (Steps.takes m r ++ Steps.finishes r) true)
           (accept (Steps.takes m r ++ sets-phase r 5) false)
           (λ x. (
-            renamed (rw (eqb-same r, x)) (Moves.takes-none r l e x),
+            renamed (rw (eqb-same r, x)) (by-reader l (Moves.takes-none e x)),
             also (desk 3 tt) (also (desk 4 tt) (also (desk 2 tt) (also (desk 5 tt) (also (desk 0 tt) none)))),
           ))
           (λ x. (
-            on 4 e (Moves.takes-size r l e x),
+            on 4 e (Moves.takes-size e x),
             also (desk 3 tt) (also (desk 4 tt) (also (desk 2 tt) (also (desk 0 tt) none))),
           ))
 
@@ -161,8 +162,11 @@ module _ (n c : ℕ) (m : Memory) where
           let word = body-read-record n c r (m (pos r)) l (omega (arith, v .desk r l .copying e, v .desk r l .words)) in
           if-equal R (suc (m (pos r))) (m (len r)) (accept (Steps.copies m r ++ Steps.finishes r) true)
           (accept (Steps.copies m r) false)
-          (λ x. (Moves.copies-last r l e x, also word (also (desk 2 tt) (also (desk 5 tt) (also (desk 0 tt) none)))))
-          (λ x. (on 5 e (Moves.copies-word r l e x), also word (also (desk 2 tt) none)))
+          (λ x. (
+            by-reader l (Moves.copies-last e x),
+            also word (also (desk 2 tt) (also (desk 5 tt) (also (desk 0 tt) none))),
+          ))
+          (λ x. (on 5 e (Moves.copies-word e x), also word (also (desk 2 tt) none)))
 
       reader-planned : R (reader-step n m r)
       unfolding reader-step
@@ -184,8 +188,8 @@ module _ (n c : ℕ) (m : Memory) where
 
     -- a step out of phase k
     out-of : {m′ : Memory} (ends : Bool) (k : ℕ) → m writer-phase ≡ k
-        → Does n c m (by n (seen-writer k ends)) m′ → Does n c m (by n (seen-writer (m writer-phase) ends)) m′
-    out-of ends k e x = renamed (ap (λ j. seen-writer j ends) (sym e)) x
+        → WriterDoes n c m (seen-writer k ends) m′ → Does n c m (by n (seen-writer (m writer-phase) ends)) m′
+    out-of ends k e x = renamed (ap (λ j. seen-writer j ends) (sym e)) (by-writer x)
 
     looking : m writer-phase ≡ 1
         → W (cond (free m) (accept (Steps.picks m) false)
@@ -247,7 +251,8 @@ module _ (n c : ℕ) (m : Memory) where
         (λ e.
         if-less P (m writes-ended) most-writes (accept (begins-write u) false) (refuse 7)
         (λ x. (
-          subst (Does n c m (by n (write-began u))) (sym (begun m u)) (Moves.write-starts u l e x),
+          subst (Does n c m (by n (write-began u))) (sym (begun m u))
+              (by-writer (Moves.write-starts u l e x)),
           body-append n c (copied write-record 0 u) (sets-out u)
               (body-copied n c write-record (body-write-record n c) u 0 (omega arith))
               (also (writer 4 tt) (also (writer 2 tt) (also (writer 3 tt) (also (writer 0 tt) none)))),
@@ -265,7 +270,7 @@ module _ (n c : ℕ) (m : Memory) where
         if-less (Outcome r (seen n m (read r))) r n _ (refuse 3)
         (λ l.
         if-equal (Outcome r (seen n m (read r))) (m (phase r)) 0 (accept (sets-phase r 1) false) (refuse 5)
-        (λ e. (Moves.read-starts r l e, also (desk r l 0 tt) none)) (λ d y. omega arith))
+        (λ e. (by-reader l (Moves.read-starts e), also (desk r l 0 tt) none)) (λ d y. omega arith))
         (λ l y. omega arith)
     plan-does (write u) = begin-planned u
     plan-does (step p) =

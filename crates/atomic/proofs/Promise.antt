@@ -1,15 +1,16 @@
 -- Demand 3 and all that goes with it, over the calls: a run keeps everything, and what it keeps is the promise.
 --     Good                                what a run keeps
+--     whole, guarded                      what it says of the memory
 --     moves-all-noted                     a history counts all moves
 --     next-good                           it keeps it over one accepted move
 --     run-begins-good, run-ends-good      it has it at the beginning, and at the end
 --     demand-3                            the theorem
 -- Assumes nothing.
-use mathlib.Core.Path.{_≡_, refl, sym, ap, subst, subst₂, _∙_}
+use mathlib.Core.Path.{_≡_, sym, ap, subst, subst₂, _∙_}
 use mathlib.Core.Logic.{inl, inr}
 use mathlib.Core.Bool.{true}
 use mathlib.Core.List.{List, [], _∷_}
-use Prim.Native.Nat.{ℕ, suc, _+_, _≤_, _<_}
+use Prim.Native.Nat.{ℕ, _+_, _≤_, _<_}
 use native.Mathlib.Omega.{arith}
 use lib.Dec.{lit<}
 use lib.ListN.{length}
@@ -19,22 +20,23 @@ use Rattle.register.specs.Area.{memory, undamaged}
 use Rattle.register.specs.Area.{readers, capacity}
 use Rattle.register.specs.Calls.{fresh, answered}
 use Rattle.register.specs.Steps.{Move}
-use Rattle.theory.specs.History.{Deed, read-began, write-began, went-on, looked, published, read-ended}
-use Rattle.theory.specs.History.{write-ended}
 use Rattle.register.specs.Calls.{after}
 use Rattle.atomic.specs.Seen.{Accepted, none, then, event, events}
 use Rattle.theory.specs.History.{Read, History, noted, all-noted, nothing-yet}
 use Rattle.atomic.specs.Demands.{Run, beginning, now, told, Promise, Demand3}
 use Rattle.theory.proofs.Tests.{each-follows}
+use Rattle.theory.proofs.Noted.{beside}
+use Rattle.register.proofs.Facts.{whole-area}
 use Rattle.atomic.proofs.Moves.{Does}
 use Rattle.atomic.proofs.Counting.{Counted, keeps-counts}
-use Rattle.atomic.proofs.Clean.{Clean, stays-clean}
+use Rattle.atomic.proofs.Clean.{Clean, stays-clean, guards}
+use Rattle.atomic.proofs.Guarded.{Guarded}
 use Rattle.theory.proofs.Lining.{in-line}
 use Rattle.atomic.proofs.Told.{Told}
 use Rattle.atomic.proofs.Telling.{tells}
 use Rattle.atomic.proofs.Bounds.{ReadExact, Bounded, keeps-bounds}
 use Rattle.atomic.proofs.Dates.{Dated, keeps-dates}
-use Rattle.register.specs.Conditions.{InRange}
+use Rattle.register.specs.Conditions.{InRange, Whole}
 use Rattle.atomic.proofs.Called.{Opened, opened, does}
 use Rattle.atomic.proofs.Called.{after-head, after-area, after-memory, after-sound}
 use Rattle.atomic.proofs.Observed.{observed}
@@ -56,14 +58,14 @@ pub record Good (n c : ℕ) (first : Record) (all-moves : ℕ) (a : List ℕ) (h
   pub bounded : Bounded n first all-moves (memory a) h
   pub dated : Dated all-moves (memory a) h
 
-moves-noted : (all-moves : ℕ) (h : History) (p : ℕ) (d : Deed) → noted all-moves h p d .moves ≡ suc (h .moves)
-moves-noted all-moves h p read-began = refl
-moves-noted all-moves h p (write-began v) = refl
-moves-noted all-moves h p (went-on k) = refl
-moves-noted all-moves h p looked = refl
-moves-noted all-moves h p (published ended) = refl
-moves-noted all-moves h p (read-ended g) = refl
-moves-noted all-moves h p write-ended = refl
+module _ {n c : ℕ} {first : Record} {all-moves : ℕ} {a : List ℕ} {h : History}
+    (g : Good n c first all-moves a h) where
+  pub whole : Whole n c (memory a)
+  whole = subst₂ (λ j k. Whole j k (memory a)) (g .its-readers) (g .its-capacity) (whole-area a (g .sound))
+
+  -- what the counts hand upwards: nothing else is asked of them
+  pub guarded : Guarded n (memory a)
+  guarded = guards (g .counted) (g .clean) whole
 
 pub moves-all-noted : (all-moves : ℕ) (a : List ℕ) (l : List Move) (h : History)
     → all-noted all-moves h (events a l) .moves ≡ h .moves + length l
@@ -71,7 +73,7 @@ moves-all-noted all-moves a [] h = omega arith
 moves-all-noted all-moves a (x ∷ l) h =
     let h′ = noted all-moves h (event a x .who) (event a x .what) in
     moves-all-noted all-moves (answered a x .area) l h′
-    ∙ omega (arith, moves-noted all-moves h (event a x .who) (event a x .what))
+    ∙ omega (arith, beside all-moves h (event a x .who) (event a x .what) .moves)
 
 module _ (n c : ℕ) (first : Record) (range : InRange n c) where
   big : n < 4294967296
@@ -120,8 +122,8 @@ module _ (n c : ℕ) (first : Record) (range : InRange n c) where
           its-capacity = after-head o 2 (lit< tt) ∙ g .its-capacity;
           counted = rw same (keeps-counts n big (g .counted) move);
           clean = rw same (stays-clean n big (g .counted) (g .clean) move);
-          told = rw same (tells n first big all-moves (g .counted) (g .told) in-time move);
-          bounded = rw same (keeps-bounds n first all-moves (g .bounded) (g .counted) (g .told) move);
+          told = rw same (tells n first big all-moves (guarded g) (g .told) in-time move);
+          bounded = rw same (keeps-bounds n first all-moves (g .bounded) (guarded g) (g .told) move);
           dated = rw same (keeps-dates n first all-moves (g .told) (g .dated) in-time move);
         }
       where
@@ -135,7 +137,7 @@ module _ (n c : ℕ) (first : Record) (range : InRange n c) where
   run-good a [] h none e g = g
   run-good {all-moves = all-moves} a (x ∷ l) h (then z rest) e g =
       run-good (answered a x .area) l (noted all-moves h (event a x .who) (event a x .what)) rest
-      (ap (λ k. k + length l) (moves-noted all-moves h (event a x .who) (event a x .what)) ∙ omega arith)
+      (ap (λ k. k + length l) (beside all-moves h (event a x .who) (event a x .what) .moves) ∙ omega arith)
       (next-good g x z (omega arith))
 
 -- the state at the beginning of a run, and at its end

@@ -54,9 +54,13 @@ module _ {made phase pos : ℕ} (v : ReaderSteps made phase pos) where
       }
 
   -- step 1 or step 3, to the size step
-  pub step-binds : {pos′ : ℕ} → Turns (suc made) 1 → ReaderSteps (suc made) 4 pos′
-  step-binds t =
-      record { early = λ x y. absurd (omega arith); bound = λ x. t; late = λ x. absurd (omega arith) }
+  pub step-binds : {pos′ : ℕ} → (phase ≡ 1) ⊎ (phase ≡ 3) → ReaderSteps (suc made) 4 pos′
+  step-binds p =
+      record { early = λ x y. absurd (omega arith); bound = λ x. go p; late = λ x. absurd (omega arith) }
+    where
+      go : (phase ≡ 1) ⊎ (phase ≡ 3) → Turns (suc made) 1
+      go (inl e) = inl (omega (arith, v .early (omega arith) (omega arith)))
+      go (inr e) = inr (omega (arith, v .early (omega arith) (omega arith)))
 
   pub step-sizes : phase ≡ 4 → ReaderSteps (suc made) 5 0
   step-sizes e =

@@ -7,9 +7,10 @@ use Rattle.register.specs.Area.{most-writes}
 use Rattle.register.specs.Conditions.{WordWhole, WriterWhole}
 
 module _ {n c phase last hand pos len old ended : ℕ} (v : WriterWhole n c phase last hand pos len old ended) where
-  pub further : (k pos′ old′ : ℕ) → phase ≢ 0 → 3 ≤ k → k ≤ 7 → pos′ ≤ len
-      → WordWhole n old′ → WriterWhole n c k last hand pos′ len old′ ended
-  further k pos′ old′ busy lo hi part before =
+  -- it goes on, from its slot to its end
+  pub further : (k pos′ old′ : ℕ) → phase ≢ 0 → 2 ≤ k → k ≤ 7 → pos′ ≤ len
+      → (k ≡ 2 → pos′ < len) → WordWhole n old′ → WriterWhole n c k last hand pos′ len old′ ended
+  further k pos′ old′ busy lo hi part copying before =
       record {
         phases = hi;
         last-one = v .last-one;
@@ -17,22 +18,7 @@ module _ {n c phase last hand pos len old ended : ℕ} (v : WriterWhole n c phas
         part = part;
         words = v .words;
         before = before;
-        copying = λ e. absurd (omega arith);
-        unmoved = λ e. absurd (omega arith);
-        room = λ d. v .room busy;
-      }
-
-  -- it copies
-  pub copying-on : (pos′ : ℕ) → phase ≢ 0 → pos′ < len → WriterWhole n c 2 last hand pos′ len old ended
-  copying-on pos′ busy more =
-      record {
-        phases = omega arith;
-        last-one = v .last-one;
-        hand-one = v .hand-one;
-        part = omega arith;
-        words = v .words;
-        before = v .before;
-        copying = λ e. more;
+        copying = copying;
         unmoved = λ e. absurd (omega arith);
         room = λ d. v .room busy;
       }

@@ -1,28 +1,27 @@
 -- A finished read of L words costs L + 1, and each move pays for 1: so a run's reads cost at most its moves.
 -- Assumes nothing.
 use mathlib.Core.Path.{_≡_, refl, sym, subst, _∙_}
-use mathlib.Core.Logic.{_≢_}
 use mathlib.Core.Bool.{cond}
 use mathlib.Core.List.{List, [], _∷_, _++_}
-use Prim.Native.Nat.{ℕ, suc, _+_, _≤_, _<_}
+use Prim.Native.Nat.{ℕ, suc, _+_, _≤_}
 use native.Mathlib.Omega.{arith}
 use lib.Dec.{eqb, lit<}
 use lib.ListN.{length}
-use borrow.Author.Tests.{ne-eqb}
 use Rattle.theory.specs.Place.{Memory, apply}
 use Rattle.register.specs.Area.{readers, memory, phase, pos, len, read-record}
 use Rattle.register.specs.Steps.{Move, copies}
 use Rattle.register.specs.Calls.{answered}
 use Rattle.register.specs.Calls.{after}
 use Rattle.atomic.specs.Seen.{Accepted, none, then}
-use Rattle.theory.specs.History.{Got}
-use Rattle.theory.specs.History.{Event}
+use Rattle.theory.specs.History.{Got, Deed, Event}
 use Rattle.atomic.specs.Seen.{event, events}
 use Rattle.theory.proofs.Tests.{eqb-same}
 use Rattle.theory.proofs.Places.{row-length}
 use Rattle.theory.proofs.Sums.{sum, sum-same, sum-one}
-use Rattle.atomic.proofs.Moves.{Does, desk-record}
+use Rattle.theory.proofs.Noted.{begins-write, looks-on, writes-on, publishes-it, ends-write}
+use Rattle.atomic.proofs.Moves.{ReaderDoes, Does, by-reader, by-writer, desk-record}
 use Rattle.atomic.proofs.Moves as moves
+use Rattle.atomic.proofs.Frames.{reader-leaves, writer-leaves, WriterSeen, writer-seen}
 use Rattle.atomic.proofs.Called.{Opened, opened, does, after-head, after-memory}
 use Rattle.atomic.proofs.Observed.{observed}
 use Rattle.runs.proofs.ReadsGot.{got-of, gots}
@@ -40,51 +39,40 @@ costs-joined (g ∷ l) k = omega (arith, costs-joined l k)
 abbrev pub paid : Memory → ℕ → ℕ
 paid m r = cond (eqb (m (phase r)) 0) 0 (cond (eqb (m (phase r)) 5) (suc (m (pos r))) 1)
 
--- a move of reader r
-by-reader : (n : ℕ) (m m′ : Memory) (r k : ℕ) → r < n → ((i : ℕ) → i ≢ r → paid m′ i ≡ paid m i)
-    → k + paid m′ r ≤ paid m r + 1 → k + sum n (paid m′) ≤ sum n (paid m) + 1
-by-reader n m m′ r k l others own = omega (arith, sum-one n (paid m′) (paid m) r l others)
+-- a move of reader r pays for what it got
+pays-own : {n : ℕ} {m m′ : Memory} {r : ℕ} {d : Deed} → ReaderDoes n m r d m′
+    → costs (got-of d) + paid m′ r ≤ paid m r + 1
+pays-own {r = r} (moves.read-starts e) = rw (eqb-same r, e) (omega arith)
+pays-own {r = r} (moves.finds-same e x) = rw (eqb-same r, e) (omega arith)
+pays-own {r = r} (moves.finds-other e x) = rw (eqb-same r, e) (omega arith)
+pays-own {r = r} (moves.leaves-slot e x) = rw (eqb-same r, e) (omega arith)
+pays-own {r = r} (moves.joins-slot e x) = rw (eqb-same r, e) (omega arith)
+pays-own {r = r} (moves.takes-none e x) = rw (eqb-same r, e) (omega arith)
+pays-own {r = r} (moves.takes-size e x) = rw (eqb-same r, e) (omega arith)
+pays-own {r = r} (moves.copies-word e x) = rw (eqb-same r, e) (omega arith)
+pays-own {m = m} {r = r} (moves.copies-last e x) =
+    let many : length (desk-record (apply m (copies m r)) r) ≡ suc (m (pos r)) =
+    row-length (m (len r)) (λ i. apply m (copies m r) (read-record r i)) ∙ sym x in
+    rw (many, eqb-same r, e) (omega arith)
 
--- a move of the writer
-by-writer : (n : ℕ) (m m′ : Memory) → ((i : ℕ) → i < n → paid m′ i ≡ paid m i)
-    → 0 + sum n (paid m′) ≤ sum n (paid m) + 1
-by-writer n m m′ same = omega (arith, sum-same n (paid m′) (paid m) same)
+-- a move of the writer got nothing
+got-none : {m m′ : Memory} {d : Deed} → WriterSeen m m′ d → costs (got-of d) ≡ 0
+got-none (begins-write x) = refl
+got-none (looks-on x) = refl
+got-none (writes-on x) = refl
+got-none (publishes-it x) = refl
+got-none (ends-write x) = refl
 
 pays : {n c : ℕ} {m m′ : Memory} {e : Event} → Does n c m e m′
     → costs (got-of (e .what)) + sum n (paid m′) ≤ sum n (paid m) + 1
-pays {n} {c} {m} {m′} (moves.read-starts r l e) =
-    by-reader n m m′ r 0 l (λ i d. rw (ne-eqb i r d)) (rw (eqb-same r, e) (omega arith))
-pays {n} {c} {m} {m′} (moves.finds-same r l e x) =
-    by-reader n m m′ r 0 l (λ i d. rw (ne-eqb i r d)) (rw (eqb-same r, e) (omega arith))
-pays {n} {c} {m} {m′} (moves.finds-other r l e x) =
-    by-reader n m m′ r 0 l (λ i d. rw (ne-eqb i r d)) (rw (eqb-same r, e) (omega arith))
-pays {n} {c} {m} {m′} (moves.leaves-slot r l e x) =
-    by-reader n m m′ r 0 l (λ i d. rw (ne-eqb i r d)) (rw (eqb-same r, e) (omega arith))
-pays {n} {c} {m} {m′} (moves.joins-slot r l e x) =
-    by-reader n m m′ r 0 l (λ i d. rw (ne-eqb i r d)) (rw (eqb-same r, e) (omega arith))
-pays {n} {c} {m} {m′} (moves.takes-none r l e x) =
-    by-reader n m m′ r 1 l (λ i d. rw (ne-eqb i r d)) (rw (eqb-same r, e) (omega arith))
-pays {n} {c} {m} {m′} (moves.takes-size r l e x) =
-    by-reader n m m′ r 0 l (λ i d. rw (ne-eqb i r d)) (rw (eqb-same r, e) (omega arith))
-pays {n} {c} {m} {m′} (moves.copies-word r l e x) =
-    by-reader n m m′ r 0 l (λ i d. rw (ne-eqb i r d)) (rw (eqb-same r, e) (omega arith))
-pays {n} {c} {m} {m′} (moves.copies-last r l e x) =
-    let many : length (desk-record (apply m (copies m r)) r) ≡ suc (m (pos r)) =
-    row-length (m (len r)) (λ i. apply m (copies m r) (read-record r i)) ∙ sym x in
-    subst (λ k. suc k + 0 + sum n (paid m′) ≤ sum n (paid m) + 1) (sym many)
-    (by-reader n m m′ r (suc (suc (m (pos r))) + 0) l (λ i d. rw (ne-eqb i r d))
-    (rw (eqb-same r, e) (omega arith)))
-pays {n} {c} {m} {m′} (moves.write-starts v l e more) = by-writer n m m′ (λ i k. refl)
-pays {n} {c} {m} {m′} (moves.picks-empty e x y z) = by-writer n m m′ (λ i k. refl)
-pays {n} {c} {m} {m′} (moves.picks-slot e x y z) = by-writer n m m′ (λ i k. refl)
-pays {n} {c} {m} {m′} (moves.passes-slot e x y) = by-writer n m m′ (λ i k. refl)
-pays {n} {c} {m} {m′} (moves.fills-word e x) = by-writer n m m′ (λ i k. refl)
-pays {n} {c} {m} {m′} (moves.fills-last e x) = by-writer n m m′ (λ i k. refl)
-pays {n} {c} {m} {m′} (moves.sets-size e) = by-writer n m m′ (λ i k. refl)
-pays {n} {c} {m} {m′} (moves.clears-first e) = by-writer n m m′ (λ i k. refl)
-pays {n} {c} {m} {m′} (moves.clears-second e) = by-writer n m m′ (λ i k. refl)
-pays {n} {c} {m} {m′} (moves.exchanges e) = by-writer n m m′ (λ i k. refl)
-pays {n} {c} {m} {m′} (moves.write-ends e) = by-writer n m m′ (λ i k. refl)
+pays {n} {c} {m} {m′} (by-reader {r = r} l x) =
+    let f = reader-leaves x in
+    let others = sum-one n (paid m′) (paid m) r l (λ q d. rw (f .desk 0 q 0 d, f .desk 2 q 0 d)) in
+    omega (arith, pays-own x, others)
+pays {n} {c} {m} {m′} (by-writer x) =
+    let f = writer-leaves x in
+    let all = sum-same n (paid m′) (paid m) (λ q k. rw (f .desk 0 q 0, f .desk 2 q 0)) in
+    omega (arith, got-none (writer-seen x), all)
 
 -- ---- a whole run
 

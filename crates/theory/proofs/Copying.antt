@@ -2,7 +2,8 @@
 -- register: `sizing` is the phase of a reader's size step, behind which it copies; `told` is the phase of a writer that
 -- has published.
 --     Reading                             what a reader has of its slot
---     reading-later, not-yet              time goes on; before the size step nothing is asked
+--     reading-later                       time goes on
+--     not-yet, from-sizing                before the size step nothing is asked
 --     bound-to-newest                     a reader that binds the current slot
 --     copy-starts, no-words               the size step
 --     copy-goes-on, copy-ends             a copying step, the last one
@@ -13,28 +14,28 @@
 --     words-there                         from phase 3 on
 --     published-whole, publishes-it, ends-it   the record that is published is the one given; writer steps 6 and 7
 -- Assumes nothing.
-use mathlib.Core.Path.{_≡_, refl, ap, subst, _∙_}
+use mathlib.Core.Path.{_≡_, refl, sym, ap, subst, _∙_}
 use mathlib.Core.Logic.{_≢_}
 use mathlib.Core.List.{List, []}
 use Prim.Native.Nat.{ℕ, suc, _≤_, _<_}
 use native.Mathlib.Decide.{ℕ-discrete}
 use native.Mathlib.Omega.{arith}
 use lib.ListN.{length}
+use borrow.Author.Tests.{eq-eqb, ne-eqb}
 use Rattle.theory.specs.Place.{Record}
-use Rattle.theory.specs.History.{Write, History}
+use Rattle.theory.specs.History.{Write, History, changed-at}
 use Rattle.theory.proofs.Places.{row, row-same}
 use Rattle.theory.proofs.Placed.{Where, Sound, where-later, newest, newest-where, apart-later}
 
 -- ---- one word more
 
-one-more : {pos : ℕ} {mine mine′ words : ℕ → ℕ} → ((j : ℕ) → j < pos → mine j ≡ words j)
-    → mine′ pos ≡ words pos → ((j : ℕ) → j ≢ pos → mine′ j ≡ mine j) → (j : ℕ) → j < suc pos
-    → mine′ j ≡ words j
-one-more {pos} {mine} {mine′} {words} had new kept j l = go (ℕ-discrete j pos)
+one-more : {pos : ℕ} {mine words : ℕ → ℕ} → ((j : ℕ) → j < pos → mine j ≡ words j)
+    → (j : ℕ) → j < suc pos → changed-at mine pos (words pos) j ≡ words j
+one-more {pos} {mine} {words} had j l = go (ℕ-discrete j pos)
   where
-    go : Dec (j ≡ pos) → mine′ j ≡ words j
-    go (yes e) = rw e new
-    go (no d) = kept j d ∙ had j (omega arith)
+    go : Dec (j ≡ pos) → changed-at mine pos (words pos) j ≡ words j
+    go (yes e) = rw (eq-eqb j pos e) (ap words (sym e))
+    go (no d) = rw (ne-eqb j pos d) (had j (omega arith))
 
 -- ---- a reader that began at `begin`: its phase, len, pos, write number and words; size, write number and words of
 -- its slot
@@ -61,6 +62,13 @@ module _ {sizing : ℕ} {first : Record} where
       (phase : ℕ) → phase < sizing
       → Reading sizing first begin now writes phase len pos number mine size its-number words
   not-yet phase l = record { bound = λ x. absurd (omega arith); copied = λ x. absurd (omega arith) }
+
+  -- so that what is asked may be shown from its size step on
+  pub from-sizing : {begin now phase len pos number size its-number : ℕ} {writes : List Write}
+      {mine words : ℕ → ℕ}
+      → (sizing ≤ phase → Reading sizing first begin now writes phase len pos number mine size its-number words)
+      → Reading sizing first begin now writes phase len pos number mine size its-number words
+  from-sizing v = record { bound = λ x. v x .bound x; copied = λ x. v (omega arith) .copied x }
 
   -- bound to the newest record
   pub bound-to-newest : (h : History) (begin len pos number size its-number : ℕ) (mine words : ℕ → ℕ)
@@ -89,23 +97,24 @@ module _ {sizing : ℕ} {first : Record} where
         subst (λ l. Where first begin now l its-number writes) (ap (λ k. row k words) z) (v .bound (omega arith))
 
     -- a copying step, and the last one
-    pub copy-goes-on : (mine′ : ℕ → ℕ) → phase ≡ suc sizing → suc pos ≢ len
-        → mine′ pos ≡ words pos → ((j : ℕ) → j ≢ pos → mine′ j ≡ mine j)
-        → Reading sizing first begin (suc now) writes phase len (suc pos) number mine′ size its-number words
-    copy-goes-on mine′ e d new kept =
+    pub copy-goes-on : phase ≡ suc sizing → suc pos ≢ len
+        → Reading sizing first begin (suc now) writes phase len (suc pos) number
+        (λ j. changed-at mine pos (words pos) j) size its-number words
+    copy-goes-on e d =
         record {
           bound = λ x. where-later (suc now) (omega arith) (v .bound x);
           copied = λ x.
               let (a, b, l, had) = v .copied x in
-              (a, b, omega arith, one-more had new kept);
+              (a, b, omega arith, one-more had);
         }
 
-    pub copy-ends : (mine′ : ℕ → ℕ) → phase ≡ suc sizing → suc pos ≡ len → mine′ pos ≡ words pos
-        → ((j : ℕ) → j ≢ pos → mine′ j ≡ mine j) → Where first begin now (row len mine′) number writes
-    copy-ends mine′ e x new kept =
+    pub copy-ends : phase ≡ suc sizing → suc pos ≡ len
+        → Where first begin now (row len (λ j. changed-at mine pos (words pos) j)) number writes
+    copy-ends e x =
         let (a, b, l, had) = v .copied e in
-        let same : row len mine′ ≡ row size words =
-        row-same len mine′ words (λ j k. one-more had new kept j (omega arith)) ∙ ap (λ k. row k words) a in
+        let same : row len (λ j. changed-at mine pos (words pos) j) ≡ row size words =
+        row-same len (λ j. changed-at mine pos (words pos) j) words (λ j k. one-more had j (omega arith))
+        ∙ ap (λ k. row k words) a in
         rw (same, b) (v .bound (omega arith))
 
 -- ---- the writer, the record it was given and the number k of published writes: its phase, len, pos, writes ended
@@ -185,26 +194,24 @@ module _ {told : ℕ} {given : Record} {k phase len pos ended : ℕ} {mine : ℕ
       }
 
   -- one word filled in
-  pub fill-goes-on : (words′ : ℕ → ℕ) → phase ≡ 2 → suc pos ≢ len → words′ pos ≡ mine pos
-      → ((j : ℕ) → j ≢ pos → words′ j ≡ words j)
-      → Writing told given k 2 len (suc pos) ended mine size number words′
-  fill-goes-on words′ e d new kept =
+  pub fill-goes-on : phase ≡ 2 → suc pos ≢ len
+      → Writing told given k 2 len (suc pos) ended mine size number (λ j. changed-at words pos (mine pos) j)
+  fill-goes-on e d =
       record {
         counted = λ y. v .counted (λ z. omega arith);
         published = λ y. absurd (omega arith);
         has = λ y. v .has (omega arith);
         unmoved = λ y. absurd (omega arith);
-        filling = λ y. (omega (arith, v .filling e .0), one-more (v .filling e .1) new kept);
+        filling = λ y. (omega (arith, v .filling e .0), one-more (v .filling e .1));
         filled = λ y z. absurd (omega arith);
         sized = λ y z. absurd (omega arith);
       }
 
-  pub fill-ends : (words′ : ℕ → ℕ) → phase ≡ 2 → suc pos ≡ len → words′ pos ≡ mine pos
-      → ((j : ℕ) → j ≢ pos → words′ j ≡ words j)
-      → Writing told given k 3 len (suc pos) ended mine size number words′
-  fill-ends words′ e d new kept =
-      words-there 3 (suc pos) words′ (omega arith) (omega arith) (omega arith) (omega arith)
-      (λ j l. one-more (v .filling e .1) new kept j (omega arith)) (λ y. absurd (omega arith))
+  pub fill-ends : phase ≡ 2 → suc pos ≡ len
+      → Writing told given k 3 len (suc pos) ended mine size number (λ j. changed-at words pos (mine pos) j)
+  fill-ends e d =
+      words-there 3 (suc pos) (λ j. changed-at words pos (mine pos) j) (omega arith) (omega arith) (omega arith)
+      (omega arith) (λ j l. one-more (v .filling e .1) j (omega arith)) (λ y. absurd (omega arith))
 
   -- what is published is the record that was given
   pub published-whole : suc phase ≡ told → (row size words ≡ given) × (number ≡ suc k)

@@ -8,3 +8,4 @@ pub mod Placed
 pub mod Inserting
 pub mod Lining
 pub mod Copying
+pub mod Noted

@@ -1,16 +1,17 @@
 -- Changes of places, stores in a row, and the words of a row as a record. Assumes nothing.
-use mathlib.Core.Path.{_≡_, refl, ap, ap₂, _∙_}
+use mathlib.Core.Path.{_≡_, refl, sym, ap, ap₂, subst, _∙_}
 use mathlib.Core.Logic.{_≢_}
 use mathlib.Core.Bool.{Bool, true, false, cond}
-use mathlib.Core.List.{List, [], _∷_, _++_}
+use mathlib.Core.List.{List, [], _∷_, _++_, map}
 use Prim.Native.Nat.{ℕ, zero, suc, _+_, _≤_, _<_}
 use native.Mathlib.Decide.{ℕ-discrete}
 use native.Mathlib.Omega.{arith}
-use lib.Dec.{eqb, ltb, ltb→lt, nltb→le}
+use lib.Dec.{T, eqb, ltb, ltb→lt, nltb→le}
 use lib.ListN.{length, getD}
 use borrow.Author.Tests.{ne-eqb}
+use Rattle.theory.specs.Lists.{all}
 use Rattle.theory.specs.Place.{Record, Place, Memory, changed, Store, apply, copied}
-use Rattle.theory.proofs.Tests.{eqb-same, same-either, true-passes}
+use Rattle.theory.proofs.Tests.{passed, true-passes, both, eqb-same, same-either}
 
 -- ---- one place changed
 
@@ -58,6 +59,16 @@ changed-elsewhere m p v q d =
 pub apply-append : (m : Memory) (s t : List Store) → apply m (s ++ t) ≡ apply (apply m s) t
 apply-append m [] t = refl
 apply-append m (x ∷ s) t = apply-append (changed m (x .place) (x .value)) s t
+
+-- stores to places that all pass a test leave a place alone that fails it
+pub apply-apart : (test : Place → Bool) (m : Memory) (stores : List Store)
+    → all (map (λ s. test (s .place)) stores) ≡ true → (q : Place) → test q ≡ false
+    → apply m stores q ≡ m q
+apply-apart test m [] e q f = refl
+apply-apart test m (s ∷ l) e q f =
+    let (here, rest) = both (test (s .place)) (all (map (λ s. test (s .place)) l)) (true-passes _ e) in
+    apply-apart test (changed m (s .place) (s .value)) l (passed _ rest) q f
+    ∙ changed-elsewhere m (s .place) (s .value) q (λ same. subst T (ap test (sym same) ∙ f) here)
 
 -- a record copied into a row: places elsewhere, places past the record, and the record's own
 module _ (at : ℕ → Place) (apart : (i j : ℕ) → at i ≡ at j → i ≡ j) where
