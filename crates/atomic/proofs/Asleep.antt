@@ -4,6 +4,7 @@ use mathlib.Core.Path.{_≡_, refl}
 use mathlib.Core.Bool.{true}
 use mathlib.Core.List.{List, [], _∷_, _++_}
 use Rattle.register.specs.Area.{is-area, slot-sound, desk-sound, writer-sound, undamaged}
+use Rattle.register.specs.Shape.{shape}
 use Rattle.register.specs.Steps.{reader-step, writer-step, Move, read, step}
 use Rattle.register.specs.Calls.{made, carried-out, answered, is-own, shown}
 use Rattle.register.proofs.SmallRuns.{areaP1, written}
@@ -21,14 +22,12 @@ run-S : Run
 unfolding is-area slot-sound desk-sound writer-sound undamaged reader-step writer-step made carried-out answered
 run-S =
     record {
-      form = 1;
-      n = 1;
-      c = 1;
+      shape = shape 1 1 1;
       first = 7 ∷ [];
       slice = areaP1;
       moves = moves-S;
       made-well = refl;
-      accepted = accepted-if (made 1 1 1 (7 ∷ []) areaP1 .area) moves-S tt;
+      accepted = accepted-if (made (shape 1 1 1) (7 ∷ []) areaP1 .area) moves-S tt;
     }
 
 abbrev read-S : Read

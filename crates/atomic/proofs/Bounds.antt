@@ -11,11 +11,11 @@ use Prim.Native.Nat.{ℕ, suc, _+_, _≤_, _<_}
 use native.Mathlib.Omega.{arith}
 use lib.ListN.{length}
 use Rattle.theory.specs.Place.{Record, Memory, apply}
-use Rattle.register.specs.Area.{slot-write-number, phase, last, pos, len, desk-write-number, writer-phase}
-use Rattle.register.specs.Area.{in-hand, writer-pos, writer-len, read-record}
+use Rattle.register.specs.Shape.{Shape}
+use Rattle.register.specs.Area.{slot-write-number, phase, last, pos, len, desk-write-number, writer-phase, in-hand}
+use Rattle.register.specs.Area.{writer-pos, writer-len, read-record}
 use Rattle.register.specs.Steps.{copies}
-use Rattle.theory.specs.History.{Deed, Event, Read, Write, History, closed}
-use Rattle.theory.specs.History.{the-read, the-write, noted}
+use Rattle.theory.specs.History.{Deed, Event, Read, Write, History, closed, the-read, the-write, noted}
 use Rattle.theory.specs.Lists.{Each, none, also}
 use Rattle.theory.proofs.Tests.{eqb-same, at-each}
 use Rattle.theory.proofs.Places.{row-length}
@@ -27,9 +27,8 @@ use Rattle.atomic.proofs.Frames.{reader-leaves, reader-seen, writer-lea
 use Rattle.atomic.proofs.Guarded.{Guarded}
 use Rattle.atomic.proofs.Told.{Told}
 use Rattle.atomic.proofs.StepCounts.{ReaderSteps, at-rest, first-step, step-on, step-binds, step-sizes}
-use Rattle.atomic.proofs.StepCounts.{step-copies, ends-exactly}
-use Rattle.atomic.proofs.StepCounts.{WriterSteps, look-finds, look-passes, fill-steps, fill-last, next-step}
-use Rattle.atomic.proofs.StepCounts.{publish-step, begin-steps, no-steps}
+use Rattle.atomic.proofs.StepCounts.{step-copies, ends-exactly, WriterSteps, look-finds, look-passes}
+use Rattle.atomic.proofs.StepCounts.{fill-steps, fill-last, next-step, publish-step, begin-steps, no-steps}
 
 -- ---- the steps of what is told
 
@@ -57,7 +56,10 @@ steps-closed n all-moves t k first (w ∷ writes) e (also b rest) =
 
 -- ---- every accepted move keeps the bounds
 
-module _ (n : ℕ) (first : Record) where
+module _ (shape : Shape) (first : Record) where
+  abbrev n : ℕ
+  n = shape .n
+
   abbrev pub ReaderAt : Memory → History → ℕ → Type 0
   ReaderAt m h r = ReaderSteps (h .steps r) (m (phase r)) (m (pos r))
 
@@ -74,7 +76,7 @@ module _ (n : ℕ) (first : Record) where
 
   module _ (all-moves : ℕ) {m : Memory} {h : History} (v : Bounded all-moves m h) where
     -- the finished reads and the reader's own steps, after its move
-    reader-own : {r : ℕ} {d : Deed} {m′ : Memory} → r < n → ReaderDoes n m r d m′
+    reader-own : {r : ℕ} {d : Deed} {m′ : Memory} → r < n → ReaderDoes shape m r d m′
         → Each ReadExact (noted all-moves h r d .reads) × ReaderAt m′ (noted all-moves h r d) r
     reader-own {r} l (Moves.read-starts e) = (v .reads, rw (eqb-same r) first-step)
     reader-own {r} l (Moves.finds-same e x) = (v .reads, rw (eqb-same r) (step-binds (v .reader r l) (inl e)))
@@ -98,7 +100,7 @@ module _ (n : ℕ) (first : Record) where
     )
 
     -- the published writes and the writer's own steps, after its move
-    module _ (g : Guarded n m) (w : Told n first m h) where
+    module _ (g : Guarded shape m) (w : Told n first m h) where
       published-now : m writer-phase ≡ 6 → WriteSteps n all-moves (the-write all-moves h n false)
       published-now e =
           let few = v .writer .few (omega arith) in
@@ -106,7 +108,7 @@ module _ (n : ℕ) (first : Record) where
           let has = w .writer .has (omega arith) .0 in
           record { looks = few; most = omega arith; exact = λ l. absurd (omega arith) }
 
-      writer-own : {c : ℕ} {d : Deed} {m′ : Memory} → WriterDoes n c m d m′
+      writer-own : {d : Deed} {m′ : Memory} → WriterDoes shape m d m′
           → Each (WriteSteps n all-moves) (noted all-moves h n d .writes) × WriterAt m′ (noted all-moves h n d)
       writer-own (Moves.write-starts u l e more) = (v .writes, rw (eqb-same n) begin-steps)
       writer-own (Moves.picks-empty e d x y) = (
@@ -141,7 +143,7 @@ module _ (n : ℕ) (first : Record) where
       )
 
       -- every accepted move
-      pub keeps-bounds : {c : ℕ} {m′ : Memory} {e : Event} → Does n c m e m′
+      pub keeps-bounds : {m′ : Memory} {e : Event} → Does shape m e m′
           → Bounded all-moves m′ (noted all-moves h (e .who) (e .what))
       keeps-bounds {m′ = m′} (by-reader {r = r} {d = d} l x) =
           let (reads, own) = reader-own l x in

@@ -17,12 +17,11 @@ use Prim.Native.Nat.{ℕ, _<_}
 use native.Mathlib.Omega.{arith}
 use lib.Dec.{lit<}
 use lib.ListN.{length, getD}
-use Rattle.register.proofs.Facts.{AreaFacts, area-facts, its-plan, whole-area, sound-area}
+use Rattle.register.proofs.Facts.{every-call, AreaFacts, area-facts, its-plan, whole-area, sound-area}
 use Rattle.theory.specs.Place.{Store, apply}
 use Rattle.theory.specs.Table.{total, view, store}
-use Rattle.register.specs.Area.{form1, readers, capacity, is-area}
-use Rattle.register.specs.Shape.{table}
-use Rattle.register.specs.Area.{memory, undamaged}
+use Rattle.register.specs.Area.{shape-of, readers, is-area, memory, undamaged}
+use Rattle.register.specs.Shape.{Shape, table}
 use Rattle.register.specs.Steps.{Plan, refuse, accept, Move, mover}
 use Rattle.register.specs.Calls.{Answer, refused, carried-out, answered}
 use Rattle.atomic.specs.Demands.{Refused}
@@ -60,13 +59,15 @@ pub refused-keeps : (a : List ℕ) (x : Move) → answered a x .number ≢ 0 →
 unfolding answered carried-out
 refused-keeps a x =
     if-true P (is-area a) _ (refused 1 a)
-    (λ e. if-true P (undamaged a) _ (refused 2 a) (λ f. by-plan (its-plan a x)) (λ f d. refused-is 2 a))
+    (λ e.
+    rw (every-call (shape-of a) x)
+    (if-true P (undamaged a) _ (refused 2 a) (λ f. by-plan (its-plan a x)) (λ f d. refused-is 2 a)))
     (λ e d. refused-is 1 a)
   where
     P : Answer → Type 0
     P y = y .number ≢ 0 → Refused a y
 
-    by-plan : (y : Plan) → P (carried-out (mover (readers a) x) a y)
+    by-plan : (y : Plan) → P (carried-out (mover (shape-of a) x) a y)
     by-plan (refuse k) d = refused-is k a
     by-plan (accept stores ends) d = absurd (d refl)
 
@@ -78,19 +79,22 @@ pub record Opened (a : List ℕ) (x : Move) : Type 0 where
   pub area : is-area a ≡ true
   pub sound : undamaged a ≡ true
   pub chosen : its-plan a x ≡ accept stores ends
-  pub answers : answered a x ≡ carried-out (mover (readers a) x) a (accept stores ends)
+  pub answers : answered a x ≡ carried-out (mover (shape-of a) x) a (accept stores ends)
 
 pub opened : (a : List ℕ) (x : Move) → answered a x .number ≡ 0 → Opened a x
 unfolding answered carried-out
 opened a x z = go (is-area a) refl (undamaged a) refl (its-plan a x) refl
   where
     Comes : Move → Plan → Type 0
-    Comes x = Outcome (readers a) (capacity a) (memory a) (mover (readers a) x) (seen (readers a) (memory a) x)
+    Comes x = Outcome (shape-of a) (memory a) (mover (shape-of a) x) (seen (readers a) (memory a) x)
 
     comes-to : (b u : Bool) (y : Plan) → is-area a ≡ b → undamaged a ≡ u → its-plan a x ≡ y
-        → answered a x ≡ cond b (cond u (carried-out (mover (readers a) x) a y) (refused 2 a)) (refused 1 a)
+        → answered a x ≡ cond b (cond u (carried-out (mover (shape-of a) x) a y) (refused 2 a)) (refused 1 a)
     comes-to b u y eb eu ey =
-        λ i. cond (eb i) (cond (eu i) (carried-out (mover (readers a) x) a (ey i)) (refused 2 a)) (refused 1 a)
+        λ i.
+        cond (eb i)
+        (cond (every-call (shape-of a) x i)
+        (cond (eu i) (carried-out (mover (shape-of a) x) a (ey i)) (refused 2 a)) (refused 1 a)) (refused 1 a)
 
     go : (b : Bool) → is-area a ≡ b → (u : Bool) → undamaged a ≡ u → (y : Plan) → its-plan a x ≡ y
         → Opened a x
@@ -98,7 +102,7 @@ opened a x z = go (is-area a) refl (undamaged a) refl (its-plan a x) refl
     go true eb false eu y ey = let k = ap (λ r. r .number) (comes-to true false y eb eu ey) in absurd (omega arith)
     go true eb true eu (refuse j) ey =
         let k = ap (λ r. r .number) (comes-to true true (refuse j) eb eu ey) in
-        let does = plan-does (readers a) (capacity a) (memory a) (whole-area a eu) x in
+        let does = plan-does (shape-of a) (memory a) (whole-area a eu) x in
         absurd (subst (Comes x) ey does (omega arith))
     go true eb true eu (accept stores ends) ey =
         record {
@@ -110,13 +114,10 @@ opened a x z = go (is-area a) refl (undamaged a) refl (its-plan a x) refl
           answers = comes-to true true (accept stores ends) eb eu ey;
         }
 
--- what it leaves, over the area's own n and c
+-- what it leaves, over the area's own shape
 module _ {a : List ℕ} {x : Move} (o : Opened a x) where
-  abbrev n : ℕ
-  n = readers a
-
-  abbrev c : ℕ
-  c = capacity a
+  abbrev shape : Shape
+  shape = shape-of a
 
   abbrev b : List ℕ
   b = answered a x .area
@@ -125,43 +126,45 @@ module _ {a : List ℕ} {x : Move} (o : Opened a x) where
   facts = area-facts a (o .area)
 
   -- the plan's stores, and the move that they are
-  pub does : Does n c (memory a) (by (mover n x) (seen n (memory a) x (o .ends) (apply (memory a) (o .stores))))
+  pub does : Does shape (memory a) (by (mover shape x) (seen (readers a) (memory a) x (o .ends) (apply (memory a) (o .stores))))
       (apply (memory a) (o .stores))
-      × AllInBody n c (o .stores)
+      × AllInBody shape (o .stores)
   does =
-      subst (Outcome n c (memory a) (mover n x) (seen n (memory a) x)) (o .chosen)
-      (plan-does n c (memory a) (whole-area a (o .sound)) x)
+      subst (Outcome shape (memory a) (mover shape x) (seen (readers a) (memory a) x)) (o .chosen)
+      (plan-does shape (memory a) (whole-area a (o .sound)) x)
 
-  pub after-is : b ≡ store (table a) a (o .stores)
+  pub after-is : b ≡ store (table shape) a (o .stores)
   unfolding carried-out
   after-is = ap (λ r. r .area) (o .answers)
 
   pub after-length : length b ≡ length a
-  after-length = ap length after-is ∙ length-store (table a) a (o .stores)
+  after-length = ap length after-is ∙ length-store (table shape) a (o .stores)
 
   pub after-head : (i : ℕ) → i < 7 → getD b i 0 ≡ getD a i 0
   after-head i l =
-      ap (λ y. getD y i 0) after-is ∙ store-untouched (table a) a (o .stores) i (head-untouched n c i l (does .1))
+      ap (λ y. getD y i 0) after-is
+      ∙ store-untouched (table shape) a (o .stores) i (head-untouched shape i l (does .1))
 
   pub after-area : is-area b ≡ true
   after-area = same-area a b after-length after-head ∙ o .area
 
-  pub after-table : table b ≡ table a
-  after-table = λ i. form1 (after-head 1 (lit< tt) i) (after-head 2 (lit< tt) i)
+  pub after-shape : shape-of b ≡ shape
+  after-shape = λ i.
+      record { form = after-head 0 (lit< tt) i; n = after-head 1 (lit< tt) i; c = after-head 2 (lit< tt) i }
 
-  pub after-view : view (table a) (store (table a) a (o .stores)) ≡ apply (memory a) (o .stores)
-  after-view = view-store (table a) a (o .stores) (facts .exact) (all-has n c (does .1))
+  pub after-view : view (table shape) (store (table shape) a (o .stores)) ≡ apply (memory a) (o .stores)
+  after-view = view-store (table shape) a (o .stores) (facts .exact) (all-has shape (does .1))
 
   pub after-memory : memory b ≡ apply (memory a) (o .stores)
-  after-memory = ap (λ t. view t b) after-table ∙ ap (view (table a)) after-is ∙ after-view
+  after-memory = ap (λ k. view (table k) b) after-shape ∙ ap (view (table shape)) after-is ∙ after-view
 
-  pub after-exact : length b ≡ total (table b)
-  after-exact = after-length ∙ facts .exact ∙ ap total (sym after-table)
+  pub after-exact : length b ≡ total (table (shape-of b))
+  after-exact = after-length ∙ facts .exact ∙ ap (λ k. total (table k)) (sym after-shape)
 
-  pub after-whole : Whole n c (memory b)
+  pub after-whole : Whole shape (memory b)
   after-whole =
-      subst (Whole n c) (sym after-memory)
-      (stays-whole n c (omega (arith, facts .range)) (whole-area a (o .sound)) (does .0))
+      subst (Whole shape) (sym after-memory)
+      (stays-whole shape (omega (arith, facts .range)) (whole-area a (o .sound)) (does .0))
 
   pub after-sound : undamaged b ≡ true
-  after-sound = sound-area b n c (after-head 1 (lit< tt)) (after-head 2 (lit< tt)) after-whole
+  after-sound = sound-area b shape after-shape after-whole

@@ -7,6 +7,7 @@ use mathlib.Core.Logic.{_≢_}
 use Prim.Native.Nat.{ℕ, _*_, _<_}
 use native.Mathlib.Omega.{arith}
 use Rattle.theory.specs.Place.{Memory}
+use Rattle.register.specs.Shape.{Shape}
 use Rattle.register.specs.Area.{current, index, r-end, phase, last, writer-phase, in-hand}
 use Rattle.theory.specs.History.{Deed, Event}
 use Rattle.register.specs.Conditions.{Whole}
@@ -14,8 +15,8 @@ use Rattle.theory.proofs.Tests.{not-differ-and-same, eqb-same, at-each}
 use Rattle.theory.proofs.Noted.{begins-write, looks-on, writes-on, publishes-it, ends-write}
 use Rattle.atomic.proofs.Moves
 use Rattle.atomic.proofs.Moves.{ReaderDoes, Does, by-reader, by-writer}
-use Rattle.atomic.proofs.Frames.{reader-leaves}
-use Rattle.atomic.proofs.Frames.{Unfilled, WriterLeaves, writer-leaves, WriterSeen, writer-seen}
+use Rattle.atomic.proofs.Frames.{reader-leaves, Unfilled, WriterLeaves, writer-leaves, WriterSeen}
+use Rattle.atomic.proofs.Frames.{writer-seen}
 use Rattle.atomic.proofs.Counting.{Counted}
 use Rattle.atomic.proofs.Balance.{hand-alone}
 use Rattle.atomic.proofs.Held.{unheld, scan-within, more-slots, end-room, counter-room}
@@ -29,9 +30,12 @@ pub record Clean (n : ℕ) (m : Memory) : Type 0 where
   pub nobody : m (r-end (index (m current))) ≡ 0
   pub turned : (r : ℕ) → r < n → Turned m r
 
-module _ (n : ℕ) (big : n < 4294967296) {m : Memory} (i : Counted n m) (v : Clean n m) where
+module _ (shape : Shape) (big : shape .n < 4294967296) {m : Memory} (i : Counted shape m) (v : Clean (shape .n) m) where
+  abbrev n : ℕ
+  n = shape .n
+
   -- a reader that goes to a phase other than 2, and one that goes to phase 2
-  reader-turned : {r : ℕ} {d : Deed} {m′ : Memory} → ReaderDoes n m r d m′ → Turned m′ r
+  reader-turned : {r : ℕ} {d : Deed} {m′ : Memory} → ReaderDoes shape m r d m′ → Turned m′ r
   reader-turned {r} (Moves.read-starts e) = rw (eqb-same r) (λ y. absurd (omega arith))
   reader-turned {r} (Moves.finds-same e x) = rw (eqb-same r) (λ y. absurd (omega arith))
   reader-turned {r} (Moves.finds-other e x) = rw (eqb-same r) (λ y z. x (sym z))
@@ -62,11 +66,11 @@ module _ (n : ℕ) (big : n < 4294967296) {m : Memory} (i : Counted n m) (v : Cl
         nobody = rw (x .new, same, f .end (m in-hand) (λ lo hi. absurd (omega arith)))
             (hand-alone (i .counts) (omega arith) (omega arith) .5 (omega arith));
         turned = λ q k. rw (f .desk 0 q 0, f .desk 1 q 0, x .new, same)
-            (λ y. unheld n m i (omega arith) (omega arith) q k (λ z. omega arith));
+            (λ y. unheld shape m i (omega arith) (omega arith) q k (λ z. omega arith));
       }
   writer-clean f (ends-write x) = not-published f (λ e. omega (arith, x .before))
 
-  pub stays-clean : {c : ℕ} {m′ : Memory} {e : Event} → Does n c m e m′ → Clean n m′
+  pub stays-clean : {m′ : Memory} {e : Event} → Does shape m e m′ → Clean n m′
   stays-clean {m′ = m′} (by-reader {r = r} l x) =
       let f = reader-leaves x in
       record {
@@ -77,15 +81,15 @@ module _ (n : ℕ) (big : n < 4294967296) {m : Memory} (i : Counted n m) (v : Cl
   stays-clean (by-writer x) = writer-clean (writer-leaves x) (writer-seen x)
 
 -- clean counts on an undamaged memory are all that is needed above them
-pub guards : {n c : ℕ} {m : Memory} → Counted n m → Clean n m → Whole n c m → Guarded n m
-guards {n} {c} {m} i v whole =
+pub guards : {shape : Shape} {m : Memory} → Counted shape m → Clean (shape .n) m → Whole shape m → Guarded shape m
+guards {shape} {m} i v whole =
     record {
       hand-apart = λ lo hi e. hand-alone (i .counts) lo (omega arith) .3 (sym e);
-      unheld = λ r l y lo hi. unheld n m i lo (omega arith) r l (λ z. omega arith);
-      scan-within = scan-within n m i;
-      more-slots = λ e taken. more-slots n m i e (not-differ-and-same _ _ _ _ taken);
+      unheld = λ r l y lo hi. unheld shape m i lo (omega arith) r l (λ z. omega arith);
+      scan-within = scan-within shape m i;
+      more-slots = λ e taken. more-slots shape m i e (not-differ-and-same _ _ _ _ taken);
       end-room = λ r l e.
-          end-room n m i r l e (v .turned r l e) (whole .slot (m (last r)) (whole .desk r l .slot) .start)
+          end-room shape m i r l e (v .turned r l e) (whole .slot (m (last r)) (whole .desk r l .slot) .start)
           (whole .writer .before .count);
-      counter-room = λ r l e. counter-room n m i (v .nobody) r l e;
+      counter-room = λ r l e. counter-room shape m i (v .nobody) r l e;
     }

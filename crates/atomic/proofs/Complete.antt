@@ -12,18 +12,18 @@ use lib.Dec.{eqb}
 use lib.ListN.{length}
 use borrow.Author.Tests.{eq-eqb, ne-eqb, lt-ltb, le-ltb}
 use Rattle.theory.specs.Place.{Record}
+use Rattle.register.specs.Shape.{Shape}
 use Rattle.register.specs.Area.{writer-phase, readers, memory}
 use Rattle.register.specs.Steps.{Move, step}
 use Rattle.register.specs.Calls.{answered, stepped}
 use Rattle.atomic.specs.Seen.{Accepted, none, then, got, event, events}
-use Rattle.theory.specs.History.{Event, Read, Write, History}
-use Rattle.theory.specs.History.{closed, changed-at, stepped-on, the-read, the-write, noted, all-noted}
-use Rattle.theory.specs.History.{nothing-yet}
+use Rattle.theory.specs.History.{Event, Read, Write, History, closed, changed-at, stepped-on, the-read, the-write}
+use Rattle.theory.specs.History.{noted, all-noted, nothing-yet}
 use Rattle.theory.specs.Lists.{Each, also}
 use Rattle.atomic.specs.Demands.{beginning, told}
 use Rattle.atomic.specs.Complete.{Moment, trail, moves-of, steps, ends-read, leaves-phase, ends-write}
-use Rattle.atomic.specs.Complete.{begun-at, since, handed, told-of, read-told, publication-told}
-use Rattle.atomic.specs.Complete.{End, end-told, publication-of, end-of, ended-only, LeavesNothingOut}
+use Rattle.atomic.specs.Complete.{begun-at, since, handed, told-of, read-told, publication-told, End}
+use Rattle.atomic.specs.Complete.{end-told, publication-of, end-of, ended-only, LeavesNothingOut}
 use Rattle.theory.proofs.Tests.{each-follows}
 use Rattle.theory.proofs.Placed.{between}
 use Rattle.atomic.proofs.Dates.{Ends, all-ended, one-open}
@@ -179,17 +179,17 @@ module _ (n all-moves : ℕ) where
         its-end = (λ i. record { move = v .moves i; steps = suc (v .steps-made p i) }) ∙ rw w
 
   -- over a whole run
-  module _ (c : ℕ) (first : Record) (range : InRange n c) where
+  module _ (k : Shape) (first : Record) (range : InRange k) (same : k .n ≡ n) where
     all-recalled : (a : List ℕ) (l : List Move) (past : List Moment) (h : History) → Accepted a l
-        → h .moves + length l ≡ all-moves → Good n c first all-moves a h → Recalls past h
+        → h .moves + length l ≡ all-moves → Good k first all-moves a h → Recalls past h
         → Recalls (trail past a l) (all-noted all-moves h (events a l))
     all-recalled a [] past h none e g v = v
     all-recalled a (x ∷ l) past h (then z rest) e g v =
-        let told-now = recalled v a (g .its-readers) (omega arith) (g .dated .ends) (tells a x (opened a x z)) in
+        let told-now = recalled v a (ap (λ j. j .n) (g .its-shape) ∙ same) (omega arith) (g .dated .ends) (tells a x (opened a x z)) in
         all-recalled (answered a x .area) l (record { area = a; move = x } ∷ past)
         (noted all-moves h (event a x .who) (event a x .what)) rest
         (omega (arith, told-now .moves, v .moves))
-        (next-good n c first range g x z (omega arith)) told-now
+        (next-good k first range g x z (omega arith)) told-now
 
 pub leaves-nothing-out : LeavesNothingOut
 leaves-nothing-out u =
@@ -208,11 +208,11 @@ leaves-nothing-out u =
     t : ℕ
     t = length (u .moves)
 
-    whole : Recalls (u .n) t (moves-of u) (told u)
+    whole : Recalls (u .shape .n) t (moves-of u) (told u)
     whole =
-        let w = made-well (u .form) (u .n) (u .c) (u .first) (u .slice) (u .made-well) in
-        all-recalled (u .n) t (u .c) (u .first) (w .range) (beginning u) (u .moves) [] nothing-yet (u .accepted)
-        (omega arith) (run-begins-good u) (nothing-recalled (u .n) t)
+        let w = made-well (u .shape) (u .first) (u .slice) (u .made-well) in
+        all-recalled (u .shape .n) t (u .shape) (u .first) (w .range) refl (beginning u) (u .moves) [] nothing-yet
+        (u .accepted) (omega arith) (run-begins-good u) (nothing-recalled (u .shape .n) t)
 
     latest : {k : ℕ} → Ends t (told u .moves) k (told u .writes) → Each (λ w. w .end ≤ t) (told u .writes)
     latest = ends-by t (omega (arith, moves-all-noted t (beginning u) (u .moves) nothing-yet))

@@ -13,6 +13,7 @@ use native.Mathlib.Omega.{arith}
 use lib.Dec.{eqb}
 use borrow.Author.Tests.{ne-eqb}
 use Rattle.theory.specs.Place.{Memory, apply}
+use Rattle.register.specs.Shape.{Shape}
 use Rattle.register.specs.Area.{current, index, counter, r-start, r-end, phase, last, writer-phase, last-slot}
 use Rattle.register.specs.Area.{in-hand, old-word}
 use Rattle.register.specs.Steps.{unbinds, binds, clears-start, clears-end, freezes}
@@ -23,8 +24,7 @@ use Rattle.atomic.proofs.Moves
 use Rattle.atomic.proofs.Moves.{ReaderDoes, WriterDoes, Does, by-reader, by-writer, to-phase}
 use Rattle.atomic.proofs.Frames.{ReaderLeaves, reader-leaves, WriterLeaves, writer-leaves}
 use Rattle.atomic.proofs.Balance.{Balance, one-leaves, one-joins, write-begins, hand-free, hand-held}
-use Rattle.atomic.proofs.Balance.{hand-filled}
-use Rattle.atomic.proofs.Balance.{hand-published, old-frozen}
+use Rattle.atomic.proofs.Balance.{hand-filled, hand-published, old-frozen}
 
 -- 1 where a reader in phase p whose last is l is bound to slot s: between its steps 2 and 3 it is bound nowhere
 abbrev pub is-bound : ℕ → ℕ → ℕ → ℕ
@@ -64,7 +64,10 @@ bound-once (suc k) p l = go (bound-once k p l) (ℕ-discrete l k)
     go rest (yes e) = omega (arith, nowhere e, sum-zero k, bound-at-most k p l)
     go rest (no d) = omega (arith, rest, bound-away k p l d)
 
-module _ (n : ℕ) where
+module _ (shape : Shape) where
+  abbrev n : ℕ
+  n = shape .n
+
   -- every reader is bound to one slot at most
   bound-few : (m : Memory) (k : ℕ) → sum k (bound n m) ≤ n
   unfolding bound
@@ -75,7 +78,7 @@ module _ (n : ℕ) where
       omega (arith, sum-swap k n share, once, sum-ones n)
 
   -- reader r moved
-  moved : {m m′ : Memory} {r : ℕ} → ReaderLeaves n m m′ r → r < n → (s : ℕ)
+  moved : {m m′ : Memory} {r : ℕ} → ReaderLeaves shape m m′ r → r < n → (s : ℕ)
       → bound n m′ s + is-bound s (m (phase r)) (m (last r))
       ≡ bound n m s + is-bound s (m′ (phase r)) (m′ (last r))
   unfolding bound
@@ -107,7 +110,7 @@ module _ (n : ℕ) where
 
   module _ {m : Memory} {r : ℕ} (v : Counted m) (h : r < n) where
     -- it neither leaves nor joins a slot
-    stays : {m′ : Memory} → ReaderLeaves n m m′ r → (2 ≤ m (phase r) → 4 ≤ m (phase r))
+    stays : {m′ : Memory} → ReaderLeaves shape m m′ r → (2 ≤ m (phase r) → 4 ≤ m (phase r))
         → m′ (last r) ≡ m (last r)
         → ((s : ℕ) → is-bound s (m (phase r)) (m (last r)) ≡ is-bound s (m′ (phase r)) (m′ (last r)))
         → Counted m′
@@ -131,7 +134,7 @@ module _ (n : ℕ) where
             all s = omega (arith, moved f h s, alike s)
 
     -- step 2
-    leaving : m (phase r) ≡ 2 → ReaderLeaves n m (apply m (unbinds m r)) r → Counted (apply m (unbinds m r))
+    leaving : m (phase r) ≡ 2 → ReaderLeaves shape m (apply m (unbinds m r)) r → Counted (apply m (unbinds m r))
     leaving e f =
         record {
           lasts = v .lasts;
@@ -153,7 +156,7 @@ module _ (n : ℕ) where
 
     -- step 3
     joining : n < 4294967296 → m (phase r) ≡ 3 → counter (m current) < n
-        → ReaderLeaves n m (apply m (binds m r)) r → Counted (apply m (binds m r))
+        → ReaderLeaves shape m (apply m (binds m r)) r → Counted (apply m (binds m r))
     joining big e x f =
         record {
           lasts = at-each (λ q. m′ (last q) < n + 2) r (rw here (v .counts .slot))
@@ -189,8 +192,8 @@ module _ (n : ℕ) where
         gone : (s : ℕ) → is-bound s (m (phase r)) (m (last r)) ≡ 0
         gone s = unbound s (m (phase r)) (m (last r)) e
 
-    reader-counts : {d : Deed} {m′ : Memory} → n < 4294967296 → ReaderDoes n m r d m′
-        → ReaderLeaves n m m′ r → Counted m′
+    reader-counts : {d : Deed} {m′ : Memory} → n < 4294967296 → ReaderDoes shape m r d m′
+        → ReaderLeaves shape m m′ r → Counted m′
     reader-counts big (Moves.read-starts e) f = stays f (λ y. omega arith) refl (λ s. rw (eqb-same r, e))
     reader-counts big (Moves.finds-same e x) f = stays f (λ y. omega arith) refl (λ s. rw (eqb-same r, e))
     reader-counts big (Moves.finds-other e x) f = stays f (λ y. omega arith) refl (λ s. rw (eqb-same r, e))
@@ -211,7 +214,7 @@ module _ (n : ℕ) where
         hand-filled (v .counts) (λ s. m (r-start s)) (λ s. m (r-end s)) k lo hi lo′ (omega arith)
         (λ y. absurd (omega arith)) (λ s d. refl) (λ s d. refl)
 
-    writer-counts : {c : ℕ} {d : Deed} {m′ : Memory} → WriterDoes n c m d m′ → WriterLeaves m m′
+    writer-counts : {d : Deed} {m′ : Memory} → WriterDoes shape m d m′ → WriterLeaves m m′
         → Counts m′ (bound n m)
     writer-counts (Moves.write-starts u h e full) f = write-begins (v .counts) e (bound-few m (n + 2))
     writer-counts (Moves.picks-empty e d x y) f = hand-free (v .counts) 3 (omega arith) (omega arith) e d x
@@ -239,7 +242,7 @@ module _ (n : ℕ) where
         (hit old (counter (m old-word)) (m (r-start old)))
 
   -- every accepted move keeps the counts
-  pub keeps-counts : n < 4294967296 → {c : ℕ} {m m′ : Memory} {e : Event} → Counted m → Does n c m e m′
+  pub keeps-counts : n < 4294967296 → {m m′ : Memory} {e : Event} → Counted m → Does shape m e m′
       → Counted m′
   keeps-counts big v (by-reader h x) = reader-counts v h big x (reader-leaves x)
   keeps-counts big {m′ = m′} v (by-writer x) =

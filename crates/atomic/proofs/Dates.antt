@@ -14,17 +14,17 @@ use native.Mathlib.Omega.{arith}
 use lib.Dec.{eqb}
 use borrow.Author.Tests.{eq-eqb, ne-eqb}
 use Rattle.theory.specs.Place.{Record, Memory}
+use Rattle.register.specs.Shape.{Shape}
 use Rattle.register.specs.Area.{writer-phase}
 use Rattle.theory.specs.History.{Deed, Event, Read, Write, History, closed, noted, the-read, the-write}
 use Rattle.theory.specs.Lists.{Each, none, also}
 use Rattle.atomic.specs.Demands.{later-published}
 use Rattle.atomic.proofs.Counts.{all-later, not-counted, closed-counted}
 use Rattle.theory.proofs.Tests.{each-follows}
-use Rattle.theory.proofs.Noted.{beside, writes-kept, begins-read, goes-on, ends-read}
-use Rattle.theory.proofs.Noted.{begins-write, looks-on, writes-on, publishes-it, ends-write}
+use Rattle.theory.proofs.Noted.{beside, writes-kept, begins-read, goes-on, ends-read, begins-write, looks-on}
+use Rattle.theory.proofs.Noted.{writes-on, publishes-it, ends-write}
 use Rattle.atomic.proofs.Moves.{Does, by-reader, by-writer}
-use Rattle.atomic.proofs.Frames.{reader-leaves, ReaderSeen, reader-seen}
-use Rattle.atomic.proofs.Frames.{WriterGoes, WriterSeen, writer-seen}
+use Rattle.atomic.proofs.Frames.{reader-leaves, ReaderSeen, reader-seen, WriterGoes, WriterSeen, writer-seen}
 use Rattle.theory.proofs.Copying.{Writing}
 use Rattle.atomic.proofs.Told.{Told}
 
@@ -95,9 +95,12 @@ pub record Dated (total : ℕ) (m : Memory) (h : History) : Type 0 where
   pub times : Each (λ w. w .publication < h .moves) (h .writes)
   pub ages : Each (AgedRead (h .moves) (h .writes)) (h .reads)
 
-module _ (n : ℕ) (first : Record) (total : ℕ) {m : Memory} {h : History} (w : Told n first m h)
+module _ (shape : Shape) (first : Record) (total : ℕ) {m : Memory} {h : History} (w : Told (shape .n) first m h)
     (v : Dated total m h)
     (t : h .moves < total) where
+  abbrev n : ℕ
+  n = shape .n
+
   times-on : Each (λ w. w .publication < suc (h .moves)) (h .writes)
   times-on = each-follows (λ w b. omega arith) (v .times)
 
@@ -153,7 +156,7 @@ module _ (n : ℕ) (first : Record) (total : ℕ) {m : Memory} {h : History} (w 
             (λ k j l. closed-counted k j (h .moves) steps (h .writes)) (v .ages);
       }
 
-  pub keeps-dates : {c : ℕ} {m′ : Memory} {e : Event} → Does n c m e m′
+  pub keeps-dates : {m′ : Memory} {e : Event} → Does shape m e m′
       → Dated total m′ (noted total h (e .who) (e .what))
   keeps-dates (by-reader {r = r} {d = d} l x) =
       let b = beside total h r d in

@@ -10,8 +10,9 @@ use native.Mathlib.Omega.{arith}
 use lib.ListN.{length}
 use borrow.Author.Tests.{eq-eqb, ne-eqb}
 use Rattle.theory.specs.Place.{Record}
-use Rattle.register.specs.Area.{size, slot-write-number, contents, phase, last, len, desk-write-number}
-use Rattle.register.specs.Area.{writer-phase, writer-len, readers, is-area, memory, undamaged}
+use Rattle.register.specs.Shape.{Shape}
+use Rattle.register.specs.Area.{shape-of, size, slot-write-number, contents, phase, last, len, desk-write-number}
+use Rattle.register.specs.Area.{writer-phase, writer-len, is-area, memory, undamaged}
 use Rattle.register.specs.Steps
 use Rattle.register.specs.Steps.{Plan, refuse, accept, read-begins, write-begins, Move, read, write, step, mover}
 use Rattle.register.specs.Calls.{carried-out, answered}
@@ -19,10 +20,9 @@ use Rattle.theory.specs.History.{Write, History}
 use Rattle.atomic.specs.Demands.{told, NeverStuck, record-of, Ends}
 use Rattle.theory.proofs.Places.{row, row-length}
 use Rattle.theory.proofs.Placed.{Placed, at-start, at-newest, further-back, Where}
-use Rattle.register.proofs.Facts.{number-of}
+use Rattle.register.proofs.Facts.{number-of, every-call, its-plan}
 use Rattle.atomic.proofs.Going.{read-begin-number, write-begin-number, step-number}
 use Rattle.atomic.proofs.StepCounts.{few-early, few-late}
-use Rattle.register.proofs.Facts.{its-plan}
 use Rattle.atomic.proofs.Promise.{Good, whole, guarded, run-ends-good}
 
 -- a read shows the record of the write that has its number
@@ -41,29 +41,32 @@ where-numbered {n = n} a = placed-numbered n (a .placed) (a .number)
 plan-number : (a : List ℕ) (x : Move) → is-area a ≡ true → undamaged a ≡ true → answered a x .number
     ≡ number-of (its-plan a x)
 unfolding answered carried-out
-plan-number a x ea es = rw (ea, es) (go (its-plan a x))
+plan-number a x ea es = rw (ea, every-call (shape-of a) x, es) (go (its-plan a x))
   where
-    go : (y : Plan) → carried-out (mover (readers a) x) a y .number ≡ number-of y
+    go : (y : Plan) → carried-out (mover (shape-of a) x) a y .number ≡ number-of y
     go (refuse k) = refl
     go (accept stores ends) = refl
 
-module _ {n c : ℕ} {first : Record} {all-moves : ℕ} {a : List ℕ} {h : History}
-    (g : Good n c first all-moves a h) where
-  goes : NeverStuck n c a
+module _ {shape : Shape} {first : Record} {all-moves : ℕ} {a : List ℕ} {h : History}
+    (g : Good shape first all-moves a h) where
+  abbrev n : ℕ
+  n = shape .n
+
+  goes : NeverStuck shape a
   goes =
       record {
         reads = λ r.
             plan-number a (read r) (g .area) (g .sound)
-            ∙ ap (λ j. number-of (read-begins j (memory a) r)) (g .its-readers)
-            ∙ read-begin-number n c (memory a) r;
+            ∙ ap (λ j. number-of (read-begins j (memory a) r)) (g .its-shape)
+            ∙ read-begin-number shape (memory a) r;
         writes = λ v.
             plan-number a (write v) (g .area) (g .sound)
-            ∙ ap (λ k. number-of (write-begins (readers a) (memory a) k v)) (g .its-capacity)
-            ∙ write-begin-number (readers a) c (memory a) v;
+            ∙ ap (λ j. number-of (write-begins j (memory a) v)) (g .its-shape)
+            ∙ write-begin-number shape (memory a) v;
         steps = λ p.
             plan-number a (step p) (g .area) (g .sound)
-            ∙ ap (λ j. number-of (Steps.process-step j (memory a) p)) (g .its-readers)
-            ∙ step-number n c (memory a) (guarded g) (whole g) p;
+            ∙ ap (λ j. number-of (Steps.process-step j (memory a) p)) (g .its-shape)
+            ∙ step-number shape (memory a) (guarded g) (whole g) p;
       }
 
   -- a read under way

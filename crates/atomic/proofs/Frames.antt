@@ -18,15 +18,16 @@ use borrow.Author.Tests.{ne-eqb}
 use Rattle.theory.specs.Lists.{all}
 use Rattle.theory.specs.Place.{Place, Memory, Store, apply}
 use Rattle.theory.specs.History.{Got, Deed}
-use Rattle.register.specs.Area.{current, index, r-start, r-end, size, slot-write-number, contents}
-use Rattle.register.specs.Area.{phase, last, finished, writer-phase, in-hand, old-word}
+use Rattle.register.specs.Shape.{limit, Shape}
+use Rattle.register.specs.Area.{current, index, r-start, r-end, size, slot-write-number, contents, phase, last}
+use Rattle.register.specs.Area.{finished, writer-phase, in-hand, old-word}
 use Rattle.register.specs.Steps.{sets-phase, unbinds, binds, takes, copies, finishes, sets-out, passes, sizes}
 use Rattle.register.specs.Steps.{clears-start, clears-end, publishes, freezes}
 use Rattle.register.specs.Calls.{published-writes}
 use Rattle.theory.proofs.Tests.{true-passes, both, eqb-same, if-true, if-equal}
 use Rattle.theory.proofs.Places.{apply-apart}
-use Rattle.theory.proofs.Noted.{OfReader, begins-read, goes-on, ends-read}
-use Rattle.theory.proofs.Noted.{OfWriter, begins-write, looks-on, writes-on, publishes-it, ends-write}
+use Rattle.theory.proofs.Noted.{OfReader, begins-read, goes-on, ends-read, OfWriter, begins-write, looks-on}
+use Rattle.theory.proofs.Noted.{writes-on, publishes-it, ends-write}
 use Rattle.atomic.proofs.Moves
 use Rattle.atomic.proofs.Moves.{ReaderDoes, WriterDoes, desk-with, to-phase, fills-to}
 
@@ -52,7 +53,7 @@ reader-may m r q =
     (cond (eqb (q .field) 1) (cond (eqb (m (phase r)) 2) (eqb (q .row) (m (last r))) false) false)
     (cond (eqb (q .part) 0) (eqb (m (phase r)) 3) false))
 
-pub record ReaderLeaves (n : ℕ) (m m′ : Memory) (r : ℕ) : Type 0 where
+pub record ReaderLeaves (shape : Shape) (m m′ : Memory) (r : ℕ) : Type 0 where
   -- every word of the writer's desk and of every other reader's
   pub writer : (f j : ℕ) → m′ (writer-word f j) ≡ m (writer-word f j)
   pub desk : (f q j : ℕ) → q ≢ r → m′ (desk-word f q j) ≡ m (desk-word f q j)
@@ -62,12 +63,12 @@ pub record ReaderLeaves (n : ℕ) (m m′ : Memory) (r : ℕ) : Type 0 where
   pub end : (s : ℕ) → (m (phase r) ≡ 2 → s ≢ m (last r)) → m′ (r-end s) ≡ m (r-end s)
   -- the current word but in phase 3, and its index always
   pub word : m (phase r) ≢ 3 → m′ current ≡ m current
-  pub slot : n < 4294967296 → index (m′ current) ≡ index (m current)
+  pub slot : limit shape < 4294967296 → index (m′ current) ≡ index (m current)
 
-module _ {n : ℕ} {m : Memory} {r : ℕ} where
+module _ {shape : Shape} {m : Memory} {r : ℕ} where
   leaves : (stores : List Store) → all (map (λ s. reader-may m r (s .place)) stores) ≡ true
-      → (n < 4294967296 → index (apply m stores current) ≡ index (m current))
-      → ReaderLeaves n m (apply m stores) r
+      → (limit shape < 4294967296 → index (apply m stores current) ≡ index (m current))
+      → ReaderLeaves shape m (apply m stores) r
   leaves stores own slot =
       record {
         writer = λ f j. rest (writer-word f j) refl;
@@ -89,7 +90,7 @@ module _ {n : ℕ} {m : Memory} {r : ℕ} where
       rest : (q : Place) → reader-may m r q ≡ false → apply m stores q ≡ m q
       rest = apply-apart (reader-may m r) m stores own
 
-  pub reader-leaves : {d : Deed} {m′ : Memory} → ReaderDoes n m r d m′ → ReaderLeaves n m m′ r
+  pub reader-leaves : {d : Deed} {m′ : Memory} → ReaderDoes shape m r d m′ → ReaderLeaves shape m m′ r
   reader-leaves (Moves.read-starts e) = leaves (sets-phase r 1) (rw (eqb-same r)) (λ big. refl)
   reader-leaves (Moves.finds-same e x) = leaves (sets-phase r 4) (rw (eqb-same r)) (λ big. refl)
   reader-leaves (Moves.finds-other e x) = leaves (sets-phase r 2) (rw (eqb-same r)) (λ big. refl)
@@ -111,7 +112,7 @@ pub record ReadEnded (m m′ : Memory) (r : ℕ) (g : Got) : Type 0 where
 abbrev pub ReaderSeen : Memory → Memory → ℕ → Deed → Type 0
 ReaderSeen m m′ r = OfReader (m′ (phase r) ≢ 0) (ReadEnded m m′ r)
 
-pub reader-seen : {n : ℕ} {m m′ : Memory} {r : ℕ} {d : Deed} → ReaderDoes n m r d m′ → ReaderSeen m m′ r d
+pub reader-seen : {shape : Shape} {m m′ : Memory} {r : ℕ} {d : Deed} → ReaderDoes shape m r d m′ → ReaderSeen m m′ r d
 reader-seen {r = r} (Moves.read-starts e) = begins-read (rw (eqb-same r) (λ z. omega arith))
 reader-seen {r = r} (Moves.finds-same e x) = goes-on (rw (eqb-same r) (λ z. omega arith))
 reader-seen {r = r} (Moves.finds-other e x) = goes-on (rw (eqb-same r) (λ z. omega arith))
@@ -186,7 +187,7 @@ module _ {m : Memory} where
       → WriterLeaves m (apply m stores)
   leaves-all = leaves-from m (λ q e. refl)
 
-  pub writer-leaves : {n c : ℕ} {d : Deed} {m′ : Memory} → WriterDoes n c m d m′ → WriterLeaves m m′
+  pub writer-leaves : {shape : Shape} {d : Deed} {m′ : Memory} → WriterDoes shape m d m′ → WriterLeaves m m′
   writer-leaves (Moves.write-starts v l e more) = leaves-from (desk-with m v) (λ q away. rw away) (sets-out v) refl
   writer-leaves (Moves.picks-empty e d x y) = leaves-all (to-phase 3) refl
   writer-leaves (Moves.picks-slot e d x y) = leaves-all (to-phase 2) refl
@@ -221,7 +222,7 @@ goes : {m m′ : Memory} → m writer-phase < 6 → m′ writer-phase ≢ 0 → 
     → WriterGoes m m′
 goes before busy untold = record { before = before; busy = busy; untold = untold }
 
-pub writer-seen : {n c : ℕ} {m m′ : Memory} {d : Deed} → WriterDoes n c m d m′ → WriterSeen m m′ d
+pub writer-seen : {shape : Shape} {m m′ : Memory} {d : Deed} → WriterDoes shape m d m′ → WriterSeen m m′ d
 writer-seen (Moves.write-starts v l e more) = begins-write (goes (omega arith) (λ z. omega arith) (λ z. omega arith))
 writer-seen (Moves.picks-empty e d x y) = looks-on (goes (omega arith) (λ z. omega arith) (λ z. omega arith))
 writer-seen (Moves.picks-slot e d x y) = looks-on (goes (omega arith) (λ z. omega arith) (λ z. omega arith))

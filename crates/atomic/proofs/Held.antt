@@ -8,6 +8,7 @@ use native.Mathlib.Decide.{ℕ-discrete}
 use native.Mathlib.Omega.{arith}
 use lib.Dec.{eqb}
 use Rattle.theory.specs.Place.{Memory}
+use Rattle.register.specs.Shape.{Shape}
 use Rattle.register.specs.Area.{current, index, counter, r-start, r-end, phase, last, writer-phase, last-slot}
 use Rattle.register.specs.Area.{in-hand, old-word}
 use Rattle.theory.proofs.Tests.{hit, miss}
@@ -15,7 +16,10 @@ use Rattle.theory.proofs.Sums.{sum-one, sum-at-most, sum-member, sum-ones}
 use Rattle.atomic.proofs.Balance.{Stage, idle, scanning, filling, told, Settled, hand-alone, hand-held}
 use Rattle.atomic.proofs.Counting.{is-bound, bound, bound-here, unbound, bound-at-most, Counted}
 
-module _ (n : ℕ) (m : Memory) where
+module _ (shape : Shape) (m : Memory) where
+  abbrev n : ℕ
+  n = shape .n
+
   abbrev At-stage : ℕ → Type 0
   At-stage away =
       Stage n (index (m current)) (λ s. m (r-end s)) (bound n m) (m writer-phase) (m last-slot) (m in-hand)
@@ -55,7 +59,7 @@ module _ (n : ℕ) (m : Memory) where
       at-most true q = omega arith
       at-most false q = bound-at-most s (m (phase q)) (m (last q))
 
-  module _ (v : Counted n m) where
+  module _ (v : Counted shape m) where
     -- the slot in the writer's hand has no reader
     pub unheld : 2 ≤ m writer-phase → m writer-phase ≤ 6 → (r : ℕ) → r < n → m (phase r) ≢ 3
         → m (last r) ≢ m in-hand

@@ -6,14 +6,13 @@ use mathlib.Core.List.{List, [], _∷_}
 use Prim.Native.Nat.{ℕ, suc}
 use lib.Dec.{T, ltb, eqb, eqb→eq, lit≤}
 use lib.ListN.{take}
-use Rattle.register.specs.Area.{is-area, slot-sound, desk-sound, writer-sound, undamaged, readers}
+use Rattle.register.specs.Area.{is-area, slot-sound, desk-sound, writer-sound, undamaged, readers, shape-of}
+use Rattle.register.specs.Shape.{shape}
 use Rattle.register.specs.Steps.{reader-step, writer-step, Move, read, write, step, mover}
-use Rattle.register.specs.Calls.{Answer, made, carried-out, answered, is-own, shown}
-use Rattle.register.specs.Calls.{after}
+use Rattle.register.specs.Calls.{Answer, made, carried-out, answered, is-own, shown, after}
 use Rattle.atomic.specs.Seen.{Accepted, none, then}
 use Rattle.theory.specs.History.{Read, Write, History}
-use Rattle.theory.specs.Line.{start, reading, writing, keep, swap, here, Line}
-use Rattle.theory.specs.Line.{done, from-start, to-read, from-write}
+use Rattle.theory.specs.Line.{start, reading, writing, keep, swap, here, Line, done, from-start, to-read, from-write}
 use Rattle.atomic.specs.Demands.{Run, told}
 use Rattle.theory.proofs.Tests.{both}
 use Rattle.theory.proofs.Lining.{Rising, no-more, next, in-order}
@@ -36,8 +35,8 @@ read-out n p x = cond (x .ended && ltb p n) (x .age ∷ shown (x .area) p []) []
 abbrev printed : ℕ → List ℕ → List Move → List (List ℕ)
 printed k a [] = []
 printed k a (x ∷ l) =
-    (k ∷ mover (readers a) x ∷ kind x ∷ answered a x .number ∷ flag (answered a x .ended)
-    ∷ read-out (readers a) (mover (readers a) x) (answered a x))
+    (k ∷ mover (shape-of a) x ∷ kind x ∷ answered a x .number ∷ flag (answered a x .ended)
+    ∷ read-out (readers a) (mover (shape-of a) x) (answered a x))
     ∷ printed (suc k) (answered a x .area) l
 
 printed-A : printed 0 areaP1 input-A
@@ -82,14 +81,12 @@ run-A : Run
 unfolding is-area slot-sound desk-sound writer-sound undamaged reader-step writer-step made carried-out answered
 run-A =
     record {
-      form = 1;
-      n = 1;
-      c = 1;
+      shape = shape 1 1 1;
       first = 7 ∷ [];
       slice = areaP1;
       moves = take 15 input-A;
       made-well = refl;
-      accepted = accepted-if (made 1 1 1 (7 ∷ []) areaP1 .area) (take 15 input-A) tt;
+      accepted = accepted-if (made (shape 1 1 1) (7 ∷ []) areaP1 .area) (take 15 input-A) tt;
     }
 
 abbrev write-A : Write

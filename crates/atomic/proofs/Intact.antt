@@ -9,18 +9,15 @@ use Prim.Native.Nat.{ℕ, _≤_, _<_}
 use lib.Dec.{eqb, ltb, leb, lit<}
 use lib.ListN.{length, getD}
 use Rattle.theory.specs.Place.{Record, Memory, Store, apply}
-use Rattle.theory.specs.Table.{address, has}
-use Rattle.register.specs.Area.{phase, len, finished, read-record, writer-phase, writes-ended, most-writes}
-use Rattle.register.specs.Area.{readers, capacity, memory}
-use Rattle.register.specs.Shape.{table}
-use Rattle.theory.specs.Lists.{all}
+use Rattle.theory.specs.Table.{address, has, Untouched}
+use Rattle.register.specs.Area.{shape-of, phase, len, finished, read-record, writer-phase, writes-ended, most-writes}
+use Rattle.register.specs.Area.{readers, memory}
+use Rattle.register.specs.Shape.{table, Shape}
+use Rattle.theory.specs.Lists.{all, words-from, Each}
 use Rattle.register.specs.Steps.{Plan, refuse, accept, sets-phase, begins-write, Move, read, write, step, mover}
 use Rattle.register.specs.Calls.{carried-out, answered, is-own, shown}
-use Rattle.theory.specs.Lists.{words-from}
 use Rattle.theory.specs.History.{went-on, looked, published, write-ended}
-use Rattle.theory.specs.Lists.{Each}
 use Rattle.atomic.specs.Demands.{busy, Intact, Keeps}
-use Rattle.theory.specs.Table.{Untouched}
 use Rattle.theory.proofs.Tests.{each-follows, if-true}
 use Rattle.theory.proofs.Places.{row, row-same}
 use Rattle.theory.proofs.Tables.{has-it, store-untouched}
@@ -29,9 +26,8 @@ use Rattle.atomic.proofs.Planned.{seen, seen-step}
 use Rattle.atomic.proofs.Frames.{desk-word}
 use Rattle.atomic.proofs.Others.{busy-in, is-end, works, desk-same, others-same}
 use Rattle.register.proofs.Facts.{its-plan, area-facts, whole-area}
-use Rattle.atomic.proofs.Called.{Opened, opened, refused-keeps, does}
-use Rattle.atomic.proofs.Called.{after-is, after-length}
-use Rattle.atomic.proofs.Called.{after-head, after-area, after-memory, after-exact, after-whole, after-sound}
+use Rattle.atomic.proofs.Called.{Opened, opened, refused-keeps, does, after-is, after-length, after-head}
+use Rattle.atomic.proofs.Called.{after-area, after-memory, after-exact, after-whole, after-sound}
 use Rattle.atomic.proofs.Observed.{shows-desk}
 
 -- ---- a begin ends nothing; a step's deed is an end if it answered "ended"
@@ -49,7 +45,7 @@ begin-ends-nothing a r =
 
 write-ends-nothing : (a : List ℕ) (v : Record) → EndsNothing (its-plan a (write v))
 write-ends-nothing a v =
-    if-true EndsNothing (leb (length v) (capacity a)) _ (refuse 4)
+    if-true EndsNothing (leb (length v) (shape-of a .c)) _ (refuse 4)
     (λ x.
     if-true EndsNothing (eqb (memory a writer-phase) 0) _ (refuse 5)
     (λ y.
@@ -90,6 +86,9 @@ module _ {a : List ℕ} {x : Move} (o : Opened a x) where
   abbrev n : ℕ
   n = readers a
 
+  abbrev shape : Shape
+  shape = shape-of a
+
   abbrev b : List ℕ
   b = answered a x .area
 
@@ -104,14 +103,14 @@ module _ {a : List ℕ} {x : Move} (o : Opened a x) where
   busy-after : (p : ℕ) → busy b p ≡ busy-in n m′ p
   busy-after p = λ i. busy-in (after-head o 1 (lit< tt) i) (after-memory o i) p
 
-  its-own-work : busy b (mover n x) ≡ not (answered a x .ended)
+  its-own-work : busy b (mover shape x) ≡ not (answered a x .ended)
   its-own-work =
-      busy-after (mover n x) ∙ works (does o .0) ∙ ap not (seen-end a x o m′) ∙ ap not (sym same-ended)
+      busy-after (mover shape x) ∙ works (does o .0) ∙ ap not (seen-end a x o m′) ∙ ap not (sym same-ended)
 
-  of-others-work : (p : ℕ) → p ≤ n → p ≢ mover n x → busy b p ≡ busy a p
+  of-others-work : (p : ℕ) → p ≤ n → p ≢ mover shape x → busy b p ≡ busy a p
   of-others-work p l d = busy-after p ∙ others-same (does o .0) p l d
 
-  module _ (r : ℕ) (default : Record) (l : r < n) (d : r ≢ mover n x) where
+  module _ (r : ℕ) (default : Record) (l : r < n) (d : r ≢ mover shape x) where
     same : (f j : ℕ) → m′ (desk-word f r j) ≡ memory a (desk-word f r j)
     same f j = desk-same (does o .0) f r j d
 
@@ -132,8 +131,8 @@ module _ {a : List ℕ} {x : Move} (o : Opened a x) where
         ∙ row-same (memory a (len r)) (λ j. m′ (read-record r j)) (λ j. memory a (read-record r j))
         (λ j h. same 6 j)
 
-    same-words : words-from b (address (table b) (read-record r 0)) (memory b (len r))
-        ≡ words-from a (address (table a) (read-record r 0)) (memory a (len r))
+    same-words : words-from b (address (table (shape-of b)) (read-record r 0)) (memory b (len r))
+        ≡ words-from a (address (table (shape-of a)) (read-record r 0)) (memory a (len r))
     same-words =
         shows-desk b r (after-exact o) (subst (λ k. r < k) (sym (after-head o 1 (lit< tt))) l)
         (subst (λ k. memory b (len r) ≤ k) (sym (after-head o 2 (lit< tt))) (after-whole o .desk r l .words))
@@ -154,12 +153,12 @@ module _ {a : List ℕ} {x : Move} (o : Opened a x) where
         size = after-length o;
         head = after-head o;
         inside = λ stores ends e.
-            subst (Each (λ s. has (table a) (s .place) ≡ true)) (sym (ap stores-of (sym e ∙ o .chosen)))
-            (each-follows (λ s own. has-it (table a) (s .place) (own .has)) (does o .1));
+            subst (Each (λ s. has (table (shape-of a)) (s .place) ≡ true)) (sym (ap stores-of (sym e ∙ o .chosen)))
+            (each-follows (λ s own. has-it (table (shape-of a)) (s .place) (own .has)) (does o .1));
         others = λ stores ends e i u.
             ap (λ y. getD y i 0) (after-is o)
-            ∙ store-untouched (table a) a (o .stores) i
-            (subst (Untouched (table a) i) (ap stores-of (sym e ∙ o .chosen)) u);
+            ∙ store-untouched (table (shape-of a)) a (o .stores) i
+            (subst (Untouched (table (shape-of a)) i) (ap stores-of (sym e ∙ o .chosen)) u);
         its-own = its-own-work;
         of-others = of-others-work;
         shows = same-shown;

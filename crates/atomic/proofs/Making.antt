@@ -1,12 +1,12 @@
 -- A fresh area: it is an area, it is undamaged, and everything that a run keeps holds at its beginning.
 --     first-memory, at-desk               the fresh memory; desks are 0
---     fresh-length, fresh-view, fresh-readers, fresh-capacity, fresh-area   the words of a fresh area
+--     fresh-length, fresh-view, fresh-shape, fresh-readers, fresh-area   the words of a fresh area
 --     first-whole                         it is undamaged
 --     first-counted, first-told, first-bounded, first-dated, first-clean   what a run keeps
 -- Assumes nothing.
 use mathlib.Core.Path.{_≡_, refl, sym, ap, _∙_, fun-ext}
 use mathlib.Core.Logic.{_≢_}
-use mathlib.Core.Bool.{Bool, true, false, cond}
+use mathlib.Core.Bool.{Bool, true, false, cond, _&&_}
 use mathlib.Core.List.{[], _∷_}
 use Prim.Native.Nat.{ℕ, zero, suc, _≤_, _<_}
 use native.Mathlib.Omega.{arith}
@@ -14,16 +14,13 @@ use lib.Dec.{eqb, ltb, leb, ltb→lt, le→leb, eqb-refl, lit<}
 use lib.ListN.{length, getD, replicate, length-replicate}
 use Rattle.theory.specs.Place.{Record, Place, Memory, _≔_, apply}
 use Rattle.theory.specs.Table.{total, address, has, view}
-use Rattle.register.specs.Area.{form1, header, current, index, counter}
-use Rattle.register.specs.Shape.{slots-at, desks-at, writer-at}
-use Rattle.register.specs.Area.{slot-field, size, contents, desk-field, writer-field, last, phase}
-use Rattle.theory.specs.Lists.{all}
-use Rattle.register.specs.Shape.{range-tests}
-use Rattle.register.specs.Area.{is-area}
+use Rattle.register.specs.Area.{shape-of, header, current, index, counter, readers, slot-field, size, contents}
+use Rattle.register.specs.Area.{desk-field, writer-field, last, phase, is-area}
+use Rattle.register.specs.Shape.{table, Shape, slots-at, desks-at, writer-at, known-form, in-range, range-tests}
+use Rattle.theory.specs.Lists.{all, none, also}
 use Rattle.register.specs.Calls.{making, fresh}
 use Rattle.theory.specs.History.{nothing-yet}
-use Rattle.theory.specs.Lists.{none, also}
-use Rattle.theory.proofs.Tests.{passed, all-pass, same-either}
+use Rattle.theory.proofs.Tests.{passed, all-pass, same-either, both, true-passes}
 use Rattle.theory.proofs.Sums.{sum-same, sum-zero, sum-ones}
 use Rattle.theory.proofs.Places.{copied-elsewhere, row, row-copied}
 use Rattle.theory.proofs.Tables.{view-store, view-here, length-store, Has, AllHas}
@@ -38,7 +35,6 @@ use Rattle.atomic.proofs.StepCounts.{at-rest, no-steps}
 use Rattle.atomic.proofs.Bounds.{Bounded}
 use Rattle.atomic.proofs.Dates.{Dated, all-ended}
 use Rattle.atomic.proofs.Clean.{Clean}
-use Rattle.register.specs.Conditions.{InRange}
 
 -- all words 0
 zeros : (k j : ℕ) → getD {A = ℕ} (replicate k 0) j 0 ≡ 0
@@ -46,16 +42,19 @@ zeros zero j = refl
 zeros (suc k) zero = refl
 zeros (suc k) (suc j) = zeros k j
 
-module _ (n c : ℕ) (v : Record) where
+module _ (shape : Shape) (v : Record) where
+  abbrev n : ℕ
+  n = shape .n
+
   -- the one fresh memory
   abbrev pub first-memory : Memory
-  first-memory = apply (λ p. 0) (making n c v)
+  first-memory = apply (λ p. 0) (making shape v)
 
   abbrev blank : Memory
   blank =
       apply (λ p. 0)
-      (header 0 ≔ 1 ∷ header 1 ≔ n ∷ header 2 ≔ c ∷ header 3 ≔ total (form1 n c)
-      ∷ header 4 ≔ slots-at n c ∷ header 5 ≔ desks-at n c ∷ header 6 ≔ writer-at n c
+      (header 0 ≔ shape .form ∷ header 1 ≔ n ∷ header 2 ≔ shape .c ∷ header 3 ≔ total (table shape)
+      ∷ header 4 ≔ slots-at shape ∷ header 5 ≔ desks-at shape ∷ header 6 ≔ writer-at shape
       ∷ current ≔ n ∷ size 0 ≔ length v ∷ [])
 
   contents-apart : (i j : ℕ) → contents 0 i ≡ contents 0 j → i ≡ j
@@ -81,81 +80,79 @@ module _ (n c : ℕ) (v : Record) where
 
   -- ---- the words
 
-  module _ (short : length v ≤ c) where
-    making-has : AllHas (form1 n c) (making n c v)
+  module _ (short : length v ≤ shape .c) where
+    making-has : AllHas (table shape) (making shape v)
     making-has =
         let h : (i : ℕ) → lib.Dec.T (ltb i 8)
-        → Has (form1 n c) (record { part = 0; field = i; row = 0; column = 0 }) = λ i t. has-header n c i
+        → Has (table shape) (record { part = 0; field = i; row = 0; column = 0 }) = λ i t. has-header shape i
         (ltb→lt i 8 t) in
         also (h 0 tt)
         (also (h 1 tt) (also (h 2 tt) (also (h 3 tt) (also (h 4 tt) (also (h 5 tt) (also (h 6 tt) (also (h 7 tt)
-        (also (body-slot n c 2 0 (omega arith) (omega arith) .has)
-        (all-has n c
-        (body-copied n c (contents 0) (λ i k. body-contents n c 0 i (omega arith) k) v 0 (omega arith)))))))))))
+        (also (body-slot shape 2 0 (omega arith) (omega arith) .has)
+        (all-has shape
+        (body-copied shape (contents 0) (λ i k. body-contents shape 0 i (omega arith) k) v 0 (omega arith)))))))))))
 
-    pub fresh-length : length (fresh n c v) ≡ total (form1 n c)
-    fresh-length = length-store (form1 n c) (replicate (total (form1 n c)) 0) (making n c v)
-        ∙ length-replicate (total (form1 n c)) 0
+    pub fresh-length : length (fresh shape v) ≡ total (table shape)
+    fresh-length = length-store (table shape) (replicate (total (table shape)) 0) (making shape v)
+        ∙ length-replicate (total (table shape)) 0
 
-    pub fresh-view : view (form1 n c) (fresh n c v) ≡ first-memory
+    pub fresh-view : view (table shape) (fresh shape v) ≡ first-memory
     fresh-view =
-        view-store (form1 n c) (replicate (total (form1 n c)) 0) (making n c v)
-        (length-replicate (total (form1 n c)) 0) making-has
-        ∙ ap (λ m. apply m (making n c v)) (fun-ext empty)
+        view-store (table shape) (replicate (total (table shape)) 0) (making shape v)
+        (length-replicate (total (table shape)) 0) making-has
+        ∙ ap (λ m. apply m (making shape v)) (fun-ext empty)
       where
-        empty : (p : Place) → view (form1 n c) (replicate (total (form1 n c)) 0) p ≡ 0
+        empty : (p : Place) → view (table shape) (replicate (total (table shape)) 0) p ≡ 0
         empty p =
-            ap (λ x. cond (has (form1 n c) p) x 0) (zeros (total (form1 n c)) (address (form1 n c) p))
-            ∙ same-either (has (form1 n c) p) 0
+            ap (λ x. cond (has (table shape) p) x 0) (zeros (total (table shape)) (address (table shape) p))
+            ∙ same-either (has (table shape) p) 0
 
     -- words 0 to 6
-    fresh-word : (i : ℕ) → i < 8 → getD (fresh n c v) (address (form1 n c) (header i)) 0 ≡ blank (header i)
+    fresh-word : (i : ℕ) → i < 8 → getD (fresh shape v) (address (table shape) (header i)) 0 ≡ blank (header i)
     fresh-word i l =
-        sym (view-here (form1 n c) (fresh n c v) (header i) (has-header n c i l)) ∙ ap (λ m. m (header i)) fresh-view
+        sym (view-here (table shape) (fresh shape v) (header i) (has-header shape i l))
+        ∙ ap (λ m. m (header i)) fresh-view
         ∙ at-header i
 
-    pub fresh-readers : getD (fresh n c v) 1 0 ≡ n
+    pub fresh-shape : shape-of (fresh shape v) ≡ shape
+    fresh-shape = λ i.
+        record { form = fresh-word 0 (lit< tt) i; n = fresh-word 1 (lit< tt) i; c = fresh-word 2 (lit< tt) i }
+
+    pub fresh-readers : readers (fresh shape v) ≡ n
     fresh-readers = fresh-word 1 (lit< tt)
 
-    pub fresh-capacity : getD (fresh n c v) 2 0 ≡ c
-    fresh-capacity = fresh-word 2 (lit< tt)
-
-    pub fresh-area : InRange n c → is-area (fresh n c v) ≡ true
+    pub fresh-area : known-form (shape .form) && in-range shape ≡ true → is-area (fresh shape v) ≡ true
     unfolding is-area
-    fresh-area range =
+    fresh-area taken =
         rw (
           fresh-length,
           fresh-word 0 (lit< tt),
-          fresh-readers,
-          fresh-capacity,
+          fresh-word 1 (lit< tt),
+          fresh-word 2 (lit< tt),
           fresh-word 3 (lit< tt),
-          fresh-word 4
-              (lit< tt),
+          fresh-word 4 (lit< tt),
           fresh-word 5 (lit< tt),
           fresh-word 6 (lit< tt),
         )
         (passed _
         (all-pass
-        (leb 8 T ∷ all (range-tests n c) ∷ eqb T T ∷ eqb (desks-at n c) (desks-at n c)
-        ∷ eqb (writer-at n c) (writer-at n c) ∷ eqb T T ∷ [])
+        (leb 8 T ∷ known-form (shape .form) ∷ all (range-tests shape) ∷ eqb T T ∷ eqb (desks-at shape) (desks-at shape)
+        ∷ eqb (writer-at shape) (writer-at shape) ∷ eqb T T ∷ [])
         (also (le→leb 8 T (omega arith))
-        (also in-its-range
+        (also (tests .0)
+        (also (tests .1)
         (also (eqb-refl T)
-        (also (eqb-refl (desks-at n c)) (also (eqb-refl (writer-at n c)) (also (eqb-refl T) none))))))))
+        (also (eqb-refl (desks-at shape)) (also (eqb-refl (writer-at shape)) (also (eqb-refl T) none)))))))))
       where
         T : ℕ
-        T = total (form1 n c)
+        T = total (table shape)
 
-        in-its-range : lib.Dec.T (all (range-tests n c))
-        in-its-range =
-            all-pass (range-tests n c)
-            (also (le→leb _ _ (range .some-readers))
-            (also (le→leb _ _ (range .few-readers))
-            (also (le→leb _ _ (range .some-words)) (also (le→leb _ _ (range .few-words)) none))))
+        tests : lib.Dec.T (known-form (shape .form)) × lib.Dec.T (in-range shape)
+        tests = both (known-form (shape .form)) (in-range shape) (true-passes _ taken)
 
   -- ---- what a run keeps
 
-  pub first-whole : n < 4294967296 → length v ≤ c → Whole n c first-memory
+  pub first-whole : n < 4294967296 → length v ≤ shape .c → Whole shape first-memory
   first-whole big short =
       record {
         word = rw (at-header 7) (record { slot = omega arith; count = omega arith });
@@ -187,7 +184,7 @@ module _ (n c : ℕ) (v : Record) where
             });
       }
     where
-      small : (b : Bool) → cond b (length v) 0 ≤ c
+      small : (b : Bool) → cond b (length v) 0 ≤ shape .c
       small true = short
       small false = omega arith
 
@@ -213,7 +210,7 @@ module _ (n c : ℕ) (v : Record) where
         (λ r l. bound-away s (first-memory (phase r)) (first-memory (last r)) (λ e. d (sym e ∙ at-desk 1 r)))
         ∙ sum-zero n
 
-    pub first-counted : Counted n first-memory
+    pub first-counted : Counted shape first-memory
     first-counted =
         record {
           lasts = λ r l. rw (at-desk 1 r) (omega arith);
@@ -238,7 +235,7 @@ module _ (n c : ℕ) (v : Record) where
           writer = rw (at-writer 0, at-writer 6) (nothing-written (omega arith));
         }
 
-    pub first-bounded : (all-moves : ℕ) → Bounded n v all-moves first-memory nothing-yet
+    pub first-bounded : (all-moves : ℕ) → Bounded shape v all-moves first-memory nothing-yet
     first-bounded all-moves =
         record {
           reads = none;

@@ -9,17 +9,16 @@ use native.Mathlib.Omega.{arith}
 use lib.Dec.{eqb}
 use borrow.Author.Tests.{eq-eqb, ne-eqb, lt-ltb, le-ltb}
 use Rattle.theory.specs.Place.{Record, Memory, apply}
-use Rattle.register.specs.Area.{phase, writer-phase, readers, capacity, memory}
+use Rattle.register.specs.Area.{shape-of, phase, writer-phase, readers, memory}
 use Rattle.register.specs.Steps.{refuse, Move, read, write, step}
 use Rattle.register.specs.Calls.{stepped}
-use Rattle.theory.specs.History.{Deed, read-began, write-began, went-on, looked, published, read-ended}
-use Rattle.theory.specs.History.{write-ended, Event}
+use Rattle.theory.specs.History.{Deed, read-began, write-began, went-on, looked, published, read-ended, write-ended}
+use Rattle.theory.specs.History.{Event}
 use Rattle.atomic.specs.Seen.{got, reader-deed, writer-deed, event}
 use Rattle.atomic.specs.Complete.{ends-read, leaves-phase, ends-write}
 use Rattle.theory.proofs.Tests.{if-less, if-equal, if-true}
 use Rattle.atomic.proofs.Moves.{Does, by}
-use Rattle.register.proofs.Facts.{number-of}
-use Rattle.register.proofs.Facts.{its-plan}
+use Rattle.register.proofs.Facts.{number-of, its-plan}
 use Rattle.atomic.proofs.Called.{Opened, does}
 use Rattle.atomic.proofs.Observed.{Says, says, observed}
 
@@ -120,7 +119,7 @@ module _ (a : List ℕ) where
       if-less (Told p m′) p (readers a) (reader-deed p (memory a (phase p)) (stepped a p))
       (writer-deed its-phase (stepped a p)) (λ l said. by-reader p l)
       (λ l. by-writer p m′ (reader-or-writer p o l))
-      (says (subst (λ e. Does (readers a) (capacity a) (memory a) e m′) (sym (observed a (step p) o)) (does o .0)))
+      (says (subst (λ e. Does (shape-of a) (memory a) e m′) (sym (observed a (step p) o)) (does o .0)))
     where
       m′ : Memory
       m′ = apply (memory a) (o .stores)

@@ -16,24 +16,21 @@ use lib.ListN.{length, getD}
 use borrow.Author.Tests.{eq-eqb, lt-ltb}
 use Rattle.theory.specs.Place.{Memory, apply}
 use Rattle.theory.specs.Table.{total, address}
-use Rattle.register.specs.Area.{phase, len, finished, desk-write-number, read-record, writer-phase}
-use Rattle.register.specs.Area.{readers, capacity, memory}
-use Rattle.register.specs.Shape.{table}
+use Rattle.register.specs.Area.{shape-of, phase, len, finished, desk-write-number, read-record, writer-phase}
+use Rattle.register.specs.Area.{readers, memory}
+use Rattle.register.specs.Shape.{Shape, table}
 use Rattle.register.specs.Calls.{published-writes, age-of, carried-out, stepped, own-tests, is-own, shown}
-use Rattle.theory.specs.Lists.{words-from}
-use Rattle.atomic.specs.Seen.{got}
-use Rattle.theory.specs.History.{Deed, Event, read-began, write-began, went-on, looked, published}
-use Rattle.theory.specs.History.{read-ended}
+use Rattle.theory.specs.Lists.{words-from, none, also}
+use Rattle.atomic.specs.Seen.{got, reader-deed, writer-deed, event}
+use Rattle.theory.specs.History.{Deed, Event, read-began, write-began, went-on, looked, published, read-ended}
 use Rattle.theory.specs.History.{write-ended}
-use Rattle.atomic.specs.Seen.{reader-deed, writer-deed, event}
 use Rattle.register.specs.Steps.{Move, read, write, step, mover}
 use Rattle.theory.proofs.Tests.{passed, true-passes, all-pass}
-use Rattle.theory.specs.Lists.{none, also}
 use Rattle.theory.proofs.Places.{row-same}
 use Rattle.theory.proofs.Tables.{view-here, words-row}
-use Rattle.register.proofs.Form1.{body-read-record}
-use Rattle.theory.proofs.Noted.{begins-read, goes-on, ends-read}
-use Rattle.theory.proofs.Noted.{begins-write, looks-on, writes-on, publishes-it, ends-write}
+use Rattle.register.proofs.Body.{body-read-record}
+use Rattle.theory.proofs.Noted.{begins-read, goes-on, ends-read, begins-write, looks-on, writes-on, publishes-it}
+use Rattle.theory.proofs.Noted.{ends-write}
 use Rattle.atomic.proofs.Moves.{Does, by-reader, by-writer, by, desk-record}
 use Rattle.atomic.proofs.Frames.{reader-leaves, ReaderSeen, reader-seen, WriterSeen, writer-seen}
 use Rattle.atomic.proofs.Planned.{seen, seen-got, seen-reader, seen-writer}
@@ -65,28 +62,28 @@ writer-says n p (writes-on x) = tt
 writer-says n p (publishes-it x) = refl
 writer-says n p (ends-write x) = x .before
 
-pub says : {n c : ℕ} {m m′ : Memory} {e : Event} → Does n c m e m′ → Says n (e .who) (e .what) m m′
-says {n} (by-reader l x) =
+pub says : {shape : Shape} {m m′ : Memory} {e : Event} → Does shape m e m′ → Says (shape .n) (e .who) (e .what) m m′
+says (by-reader l x) =
     let f = reader-leaves x in
     reader-says l (rw (f .writer 6 0, f .writer 0 0)) (reader-seen x)
-says {n} (by-writer x) = writer-says n n (writer-seen x)
+says {shape} (by-writer x) = writer-says (shape .n) (shape .n) (writer-seen x)
 
 -- the record that showing gives is the one in the desk
-pub shows-desk : (a : List ℕ) (r : ℕ) → length a ≡ total (table a) → r < readers a
-    → memory a (len r) ≤ capacity a
-    → words-from a (address (table a) (read-record r 0)) (memory a (len r)) ≡ desk-record (memory a) r
+pub shows-desk : (a : List ℕ) (r : ℕ) → length a ≡ total (table (shape-of a)) → r < readers a
+    → memory a (len r) ≤ shape-of a .c
+    → words-from a (address (table (shape-of a)) (read-record r 0)) (memory a (len r)) ≡ desk-record (memory a) r
 shows-desk a r e l k =
-    words-row a start (memory a (len r)) (omega (arith, e, mul-le-mul-right (6 + capacity a) l, k))
+    words-row a start (memory a (len r)) (omega (arith, e, mul-le-mul-right (6 + shape-of a .c) l, k))
     ∙ row-same (memory a (len r)) (λ j. getD a (start + j) 0) (λ j. memory a (read-record r j)) word
   where
     start : ℕ
-    start = address (table a) (read-record r 0)
+    start = address (table (shape-of a)) (read-record r 0)
 
     word : (j : ℕ) → j < memory a (len r) → getD a (start + j) 0 ≡ memory a (read-record r j)
     word j h =
-        let here : start + j ≡ address (table a) (read-record r j) = omega arith in
-        let there = body-read-record (readers a) (capacity a) r j l (omega (arith, h, k)) in
-        ap (λ i. getD a i 0) here ∙ sym (view-here (table a) a (read-record r j) (there .has))
+        let here : start + j ≡ address (table (shape-of a)) (read-record r j) = omega arith in
+        let there = body-read-record (shape-of a) r j l (omega (arith, h, k)) in
+        ap (λ i. getD a i 0) here ∙ sym (view-here (table (shape-of a)) a (read-record r j) (there .has))
 
 -- ---- a step of reader p that ended its read
 
@@ -127,11 +124,11 @@ module _ (a : List ℕ) (p : ℕ) (o : Opened a (step p)) where
     shows-record : shown b p [] ≡ desk-record m′ p
     unfolding shown
     shows-record =
-        ap (λ t. cond t (words-from b (address (table b) (read-record p 0)) (memory b (len p))) []) own-record
+        ap (λ t. cond t (words-from b (address (table (shape-of b)) (read-record p 0)) (memory b (len p))) []) own-record
         ∙ shows-desk b p (after-exact o) still few
         ∙ ap (λ m. desk-record m p) (after-memory o)
       where
-        few : memory b (len p) ≤ capacity b
+        few : memory b (len p) ≤ shape-of b .c
         few = subst (λ k. memory b (len p) ≤ k) (sym (after-head o 2 (lit< tt))) (after-whole o .desk p l .words)
 
     same-age : stepped a p .age ≡ age-of m′ p
@@ -167,7 +164,7 @@ module _ (a : List ℕ) (p : ℕ) (o : Opened a (step p)) where
 -- ---- every accepted call
 
 pub observed : (a : List ℕ) (x : Move) (o : Opened a x)
-    → event a x ≡ by (mover (readers a) x) (seen (readers a) (memory a) x (o .ends) (apply (memory a) (o .stores)))
+    → event a x ≡ by (mover (shape-of a) x) (seen (readers a) (memory a) x (o .ends) (apply (memory a) (o .stores)))
 observed a (read r) o = refl
 observed a (write v) o = refl
 observed a (step p) o = λ i. record { who = p; what = what i }

@@ -7,14 +7,15 @@ use native.Mathlib.Omega.{arith}
 use lib.Dec.{eqb, ltb, nltb→le}
 use borrow.Author.Tests.{ne-eqb, lt-ltb, le-ltb}
 use Rattle.theory.specs.Place.{Memory}
+use Rattle.register.specs.Shape.{Shape}
 use Rattle.register.specs.Area.{phase, writer-phase}
 use Rattle.theory.specs.History.{Deed, Event, read-began, write-began, went-on, looked, published, read-ended}
 use Rattle.theory.specs.History.{write-ended}
-use Rattle.theory.proofs.Noted.{begins-read, goes-on, ends-read}
-use Rattle.theory.proofs.Noted.{begins-write, looks-on, writes-on, publishes-it, ends-write}
+use Rattle.theory.proofs.Noted.{begins-read, goes-on, ends-read, begins-write, looks-on, writes-on, publishes-it}
+use Rattle.theory.proofs.Noted.{ends-write}
 use Rattle.atomic.proofs.Moves.{Does, by-reader, by-writer}
-use Rattle.atomic.proofs.Frames.{desk-word, reader-leaves, ReaderSeen, reader-seen}
-use Rattle.atomic.proofs.Frames.{writer-leaves, WriterSeen, writer-seen}
+use Rattle.atomic.proofs.Frames.{desk-word, reader-leaves, ReaderSeen, reader-seen, writer-leaves}
+use Rattle.atomic.proofs.Frames.{WriterSeen, writer-seen}
 
 -- whether process p is in an operation
 abbrev pub busy-in : ℕ → Memory → ℕ → Bool
@@ -44,27 +45,30 @@ writer-works (writes-on x) = rw (ne-eqb _ _ (x .busy))
 writer-works (publishes-it x) = rw (x .after)
 writer-works (ends-write x) = rw (x .after)
 
-pub works : {n c : ℕ} {m m′ : Memory} {e : Event} → Does n c m e m′
-    → busy-in n m′ (e .who) ≡ not (is-end (e .what))
-works {n = n} (by-reader {r = r} l x) = rw (lt-ltb r n l) (reader-works (reader-seen x))
-works {n = n} (by-writer x) = rw (le-ltb n n (omega arith)) (writer-works (writer-seen x))
+pub works : {shape : Shape} {m m′ : Memory} {e : Event} → Does shape m e m′
+    → busy-in (shape .n) m′ (e .who) ≡ not (is-end (e .what))
+works {shape} (by-reader {r = r} l x) = rw (lt-ltb r (shape .n) l) (reader-works (reader-seen x))
+works {shape} (by-writer x) = rw (le-ltb (shape .n) (shape .n) (omega arith)) (writer-works (writer-seen x))
 
 -- every word of the desk of a reader that does not move
-pub desk-same : {n c : ℕ} {m m′ : Memory} {e : Event} → Does n c m e m′ → (f r j : ℕ) → r ≢ e .who
+pub desk-same : {shape : Shape} {m m′ : Memory} {e : Event} → Does shape m e m′ → (f r j : ℕ) → r ≢ e .who
     → m′ (desk-word f r j) ≡ m (desk-word f r j)
 desk-same (by-reader l x) f r j d = reader-leaves x .desk f r j d
 desk-same (by-writer x) f r j d = writer-leaves x .desk f r j
 
-writer-same : {n c : ℕ} {m m′ : Memory} {e : Event} → Does n c m e m′ → e .who ≢ n
+writer-same : {shape : Shape} {m m′ : Memory} {e : Event} → Does shape m e m′ → e .who ≢ shape .n
     → m′ writer-phase ≡ m writer-phase
 writer-same (by-reader l x) d = reader-leaves x .writer 0 0
 writer-same (by-writer x) d = absurd (d refl)
 
 -- nobody else becomes busy or idle
-pub others-same : {n c : ℕ} {m m′ : Memory} {e : Event} → Does n c m e m′ → (p : ℕ) → p ≤ n
-    → p ≢ e .who → busy-in n m′ p ≡ busy-in n m p
-others-same {n = n} {m = m} {m′ = m′} {e = e} x p l d = go (ltb p n) refl
+pub others-same : {shape : Shape} {m m′ : Memory} {e : Event} → Does shape m e m′ → (p : ℕ) → p ≤ shape .n
+    → p ≢ e .who → busy-in (shape .n) m′ p ≡ busy-in (shape .n) m p
+others-same {shape} {m = m} {m′ = m′} {e = e} x p l d = go (ltb p n) refl
   where
+    n : ℕ
+    n = shape .n
+
     -- the writer is none of the readers
     go : (t : Bool) → ltb p n ≡ t
         → not (eqb (m′ (cond t (phase p) writer-phase)) 0) ≡ not (eqb (m (cond t (phase p) writer-phase)) 0)

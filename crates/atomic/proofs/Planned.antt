@@ -14,28 +14,24 @@ use lib.Dec.{T, eqb, ltb, ltb→lt}
 use lib.ListN.{length}
 use borrow.Author.Tests.{ne-eqb, lt-ltb, le-ltb}
 use Rattle.theory.specs.Place.{Record, Place, Memory, apply, copied}
-use Rattle.register.specs.Area.{current, index, counter, r-end, size, most-writes}
-use Rattle.register.specs.Shape.{limit}
-use Rattle.register.specs.Area.{phase, last, pos, len, desk-write-number}
-use Rattle.register.specs.Area.{writer-phase, in-hand, writer-pos, writer-len, old-word}
+use Rattle.register.specs.Area.{current, index, counter, r-end, size, most-writes, phase, last, pos, len}
+use Rattle.register.specs.Area.{desk-write-number, writer-phase, in-hand, writer-pos, writer-len, old-word}
 use Rattle.register.specs.Area.{writes-ended, write-record}
-use Rattle.register.specs.Steps.{Plan, refuse, accept, write-begins, reader-step, writer-step}
-use Rattle.register.specs.Steps.{begins-write, free}
-use Rattle.register.specs.Steps.{sets-phase, compares, sets-out}
+use Rattle.register.specs.Shape.{limit, Shape}
+use Rattle.register.specs.Steps.{Plan, refuse, accept, write-begins, reader-step, writer-step, begins-write, free}
+use Rattle.register.specs.Steps.{sets-phase, compares, sets-out, Move, read, write, step, mover, plan}
 use Rattle.register.specs.Steps
 use Rattle.theory.specs.History.{Got, Deed, read-began, write-began, went-on, looked, published, read-ended}
 use Rattle.theory.specs.History.{write-ended}
-use Rattle.register.specs.Steps.{Move, read, write, step, mover, plan}
 use Rattle.theory.specs.Lists.{none, also}
-use Rattle.theory.proofs.Tests.{if-true, if-equal, if-less, if-at-most, end, next, at-number}
-use Rattle.theory.proofs.Tests.{eqb-same, same-either, differ-and-same}
-use Rattle.theory.proofs.Tests.{not-differ-and-same}
+use Rattle.theory.proofs.Tests.{if-true, if-equal, if-less, if-at-most, end, next, at-number, eqb-same, same-either}
+use Rattle.theory.proofs.Tests.{differ-and-same, not-differ-and-same}
 use Rattle.theory.proofs.Places.{place-equal, apply-append, copied-elsewhere, copied-column}
-use Rattle.register.proofs.Body.{InBody, AllInBody, body-append, body-current, body-slot, body-contents}
-use Rattle.register.proofs.Body.{body-desk, body-read-record, body-writer, body-write-record, body-copied}
+use Rattle.register.proofs.Body.{InBody, AllInBody, body-append, body-current, body-slot, body-contents, body-desk}
+use Rattle.register.proofs.Body.{body-read-record, body-writer, body-write-record, body-copied}
 use Rattle.atomic.proofs.Moves
-use Rattle.atomic.proofs.Moves.{ReaderDoes, WriterDoes, Does, by-reader, by-writer}
-use Rattle.atomic.proofs.Moves.{by, desk-with, to-phase, fills-to, got-now, desk-record}
+use Rattle.atomic.proofs.Moves.{ReaderDoes, WriterDoes, Does, by-reader, by-writer, by, desk-with, to-phase}
+use Rattle.atomic.proofs.Moves.{fills-to, got-now, desk-record}
 use Rattle.register.specs.Conditions.{Whole}
 
 -- ---- what is seen of a move, from the memories before and after it
@@ -89,29 +85,32 @@ begun m v =
 
 -- ---- each plan
 
-module _ (n c : ℕ) (m : Memory) where
+module _ (shape : Shape) (m : Memory) where
+  abbrev n : ℕ
+  n = shape .n
+
   -- what a plan comes to, by process p, if `what` is seen of it
   abbrev pub Outcome : ℕ → (Bool → Memory → Deed) → Plan → Type 0
   Outcome p what (refuse k) = k ≢ 0
   Outcome p what (accept stores ends) =
-      Does n c m (by p (what ends (apply m stores))) (apply m stores) × AllInBody n c stores
+      Does shape m (by p (what ends (apply m stores))) (apply m stores) × AllInBody shape stores
 
   -- seen by another name
-  renamed : {p : ℕ} {d d′ : Deed} {m′ : Memory} → d ≡ d′ → Does n c m (by p d) m′
-      → Does n c m (by p d′) m′
-  renamed {p = p} {m′ = m′} e x = subst (λ d. Does n c m (by p d) m′) e x
+  renamed : {p : ℕ} {d d′ : Deed} {m′ : Memory} → d ≡ d′ → Does shape m (by p d) m′
+      → Does shape m (by p d′) m′
+  renamed {p = p} {m′ = m′} e x = subst (λ d. Does shape m (by p d) m′) e x
 
-  module _ (v : Whole n c m) where
+  module _ (v : Whole shape m) where
     module _ (r : ℕ) (l : r < n) where
-      desk : (f : ℕ) → T (ltb f 6) → InBody n c (record { part = 2; field = f; row = r; column = 0 })
-      desk f t = body-desk n c f r (ltb→lt f 6 t) l
+      desk : (f : ℕ) → T (ltb f 6) → InBody shape (record { part = 2; field = f; row = r; column = 0 })
+      desk f t = body-desk shape f r (ltb→lt f 6 t) l
 
       abbrev R : Plan → Type 0
       R = Outcome r (seen-reader m r)
 
       -- a step that ends nothing
-      on : {m′ : Memory} (k : ℕ) → m (phase r) ≡ k → ReaderDoes n m r (went-on k) m′
-          → Does n c m (by r (went-on (m (phase r)))) m′
+      on : {m′ : Memory} (k : ℕ) → m (phase r) ≡ k → ReaderDoes shape m r (went-on k) m′
+          → Does shape m (by r (went-on (m (phase r)))) m′
       on k e x = renamed (ap went-on (sym e)) (by-reader l x)
 
       comparing : m (phase r) ≡ 1 → R (accept (compares m r) false)
@@ -121,22 +120,22 @@ module _ (n c : ℕ) (m : Memory) where
           (λ x. (on 1 e (Moves.finds-other e x), also (desk 0 tt) none))
 
       unbinds : m (phase r) ≡ 2
-          → R (cond (ltb (m (r-end (m (last r)))) (limit n)) (accept (Steps.unbinds m r) false) (refuse 2))
+          → R (cond (ltb (m (r-end (m (last r)))) (limit shape)) (accept (Steps.unbinds m r) false) (refuse 2))
       unbinds e =
-          if-less R (m (r-end (m (last r)))) (limit n) (accept (Steps.unbinds m r) false) (refuse 2)
+          if-less R (m (r-end (m (last r)))) (limit shape) (accept (Steps.unbinds m r) false) (refuse 2)
           (λ x. (
             on 2 e (Moves.leaves-slot e x),
-            also (body-slot n c 1 (m (last r)) (omega arith) (v .desk r l .slot)) (also (desk 0 tt) none),
+            also (body-slot shape 1 (m (last r)) (omega arith) (v .desk r l .slot)) (also (desk 0 tt) none),
           ))
           (λ x y. omega arith)
 
       binds : m (phase r) ≡ 3
-          → R (cond (ltb (counter (m current)) (limit n)) (accept (Steps.binds m r) false) (refuse 2))
+          → R (cond (ltb (counter (m current)) (limit shape)) (accept (Steps.binds m r) false) (refuse 2))
       binds e =
-          if-less R (counter (m current)) (limit n) (accept (Steps.binds m r) false) (refuse 2)
+          if-less R (counter (m current)) (limit shape) (accept (Steps.binds m r) false) (refuse 2)
           (λ x. (
             on 3 e (Moves.joins-slot e x),
-            also (body-current n c) (also (desk 1 tt) (also (desk 0 tt) none)),
+            also (body-current shape) (also (desk 1 tt) (also (desk 0 tt) none)),
           ))
           (λ x y. omega arith)
 
@@ -159,7 +158,7 @@ module _ (n c : ℕ) (m : Memory) where
           → R (cond (eqb (suc (m (pos r))) (m (len r))) (accept (Steps.copies m r ++ Steps.finishes r) true)
           (accept (Steps.copies m r) false))
       copies e =
-          let word = body-read-record n c r (m (pos r)) l (omega (arith, v .desk r l .copying e, v .desk r l .words)) in
+          let word = body-read-record shape r (m (pos r)) l (omega (arith, v .desk r l .copying e, v .desk r l .words)) in
           if-equal R (suc (m (pos r))) (m (len r)) (accept (Steps.copies m r ++ Steps.finishes r) true)
           (accept (Steps.copies m r) false)
           (λ x. (
@@ -168,7 +167,7 @@ module _ (n c : ℕ) (m : Memory) where
           ))
           (λ x. (on 5 e (Moves.copies-word e x), also word (also (desk 2 tt) none)))
 
-      reader-planned : R (reader-step n m r)
+      reader-planned : R (reader-step shape m r)
       unfolding reader-step
       reader-planned =
           at-number R (m (phase r)) 0 (m (phase r)) _ (refuse 2) (omega arith)
@@ -177,18 +176,18 @@ module _ (n c : ℕ) (m : Memory) where
 
     -- ---- the writer
 
-    writer : (f : ℕ) → T (ltb f 7) → InBody n c (record { part = 3; field = f; row = 0; column = 0 })
-    writer f t = body-writer n c f (ltb→lt f 7 t)
+    writer : (f : ℕ) → T (ltb f 7) → InBody shape (record { part = 3; field = f; row = 0; column = 0 })
+    writer f t = body-writer shape f (ltb→lt f 7 t)
 
-    hand : (f : ℕ) → T (ltb f 4) → InBody n c (record { part = 1; field = f; row = m in-hand; column = 0 })
-    hand f t = body-slot n c f (m in-hand) (ltb→lt f 4 t) (v .writer .hand-one)
+    hand : (f : ℕ) → T (ltb f 4) → InBody shape (record { part = 1; field = f; row = m in-hand; column = 0 })
+    hand f t = body-slot shape f (m in-hand) (ltb→lt f 4 t) (v .writer .hand-one)
 
     abbrev W : Plan → Type 0
     W = Outcome n (λ ends m′. seen-writer (m writer-phase) ends)
 
     -- a step out of phase k
     out-of : {m′ : Memory} (ends : Bool) (k : ℕ) → m writer-phase ≡ k
-        → WriterDoes n c m (seen-writer k ends) m′ → Does n c m (by n (seen-writer (m writer-phase) ends)) m′
+        → WriterDoes shape m (seen-writer k ends) m′ → Does shape m (by n (seen-writer (m writer-phase) ends)) m′
     out-of ends k e x = renamed (ap (λ j. seen-writer j ends) (sym e)) (by-writer x)
 
     looking : m writer-phase ≡ 1
@@ -208,7 +207,7 @@ module _ (n c : ℕ) (m : Memory) where
 
     fills : m writer-phase ≡ 2 → W (accept (Steps.fills m) false)
     fills e =
-        let word = body-contents n c (m in-hand) (m writer-pos) (v .writer .hand-one)
+        let word = body-contents shape (m in-hand) (m writer-pos) (v .writer .hand-one)
         (omega (arith, v .writer .copying e, v .writer .words)) in
         if-equal (λ k. W (accept (fills-to m k) false)) (suc (m writer-pos)) (m writer-len) 3 2
         (λ x. (out-of false 2 e (Moves.fills-last e x), also word (also (writer 3 tt) (also (writer 0 tt) none))))
@@ -217,11 +216,11 @@ module _ (n c : ℕ) (m : Memory) where
     ends-write : m writer-phase ≡ 7 → W (accept (Steps.freezes m) true)
     ends-write e = (
       out-of true 7 e (Moves.write-ends e),
-      also (body-slot n c 0 (index (m old-word)) (omega arith) (v .writer .before .slot))
+      also (body-slot shape 0 (index (m old-word)) (omega arith) (v .writer .before .slot))
           (also (writer 1 tt) (also (writer 6 tt) (also (writer 0 tt) none))),
     )
 
-    writer-planned : W (writer-step n m)
+    writer-planned : W (writer-step shape m)
     unfolding writer-step
     writer-planned =
         at-number W (m writer-phase) 0 (m writer-phase) _ (refuse 2) (omega arith)
@@ -238,23 +237,23 @@ module _ (n c : ℕ) (m : Memory) where
         (next
         (λ e. (
           out-of false 6 e (Moves.exchanges e),
-          also (writer 5 tt) (also (body-current n c) (also (writer 0 tt) none)),
+          also (writer 5 tt) (also (body-current shape) (also (writer 0 tt) none)),
         ))
         (next ends-write end))))))))
         (λ h y. omega arith)
 
-    begin-planned : (u : Record) → Outcome n (λ ends m′. write-began u) (write-begins n m c u)
+    begin-planned : (u : Record) → Outcome n (λ ends m′. write-began u) (write-begins shape m u)
     begin-planned u =
-        if-at-most P (length u) c _ (refuse 4)
+        if-at-most P (length u) (shape .c) _ (refuse 4)
         (λ l.
         if-equal P (m writer-phase) 0 _ (refuse 5)
         (λ e.
         if-less P (m writes-ended) most-writes (accept (begins-write u) false) (refuse 7)
         (λ x. (
-          subst (Does n c m (by n (write-began u))) (sym (begun m u))
+          subst (Does shape m (by n (write-began u))) (sym (begun m u))
               (by-writer (Moves.write-starts u l e x)),
-          body-append n c (copied write-record 0 u) (sets-out u)
-              (body-copied n c write-record (body-write-record n c) u 0 (omega arith))
+          body-append shape (copied write-record 0 u) (sets-out u)
+              (body-copied shape write-record (body-write-record shape) u 0 (omega arith))
               (also (writer 4 tt) (also (writer 2 tt) (also (writer 3 tt) (also (writer 0 tt) none)))),
         ))
         (λ x y. omega arith))
@@ -265,7 +264,7 @@ module _ (n c : ℕ) (m : Memory) where
         P = Outcome n (λ ends m′. write-began u)
 
     -- every plan on an undamaged memory
-    pub plan-does : (x : Move) → Outcome (mover n x) (seen n m x) (plan n c m x)
+    pub plan-does : (x : Move) → Outcome (mover shape x) (seen n m x) (plan shape m x)
     plan-does (read r) =
         if-less (Outcome r (seen n m (read r))) r n _ (refuse 3)
         (λ l.
@@ -274,15 +273,15 @@ module _ (n c : ℕ) (m : Memory) where
         (λ l y. omega arith)
     plan-does (write u) = begin-planned u
     plan-does (step p) =
-        if-less (Outcome p (seen n m (step p))) p n (reader-step n m p) _
-        (λ l. subst (λ b. Outcome p (seen-step b m p) (reader-step n m p)) (sym (lt-ltb p n l))
+        if-less (Outcome p (seen n m (step p))) p n (reader-step shape m p) _
+        (λ l. subst (λ b. Outcome p (seen-step b m p) (reader-step shape m p)) (sym (lt-ltb p n l))
         (reader-planned p l))
         (λ l.
-        if-equal (Outcome p (seen n m (step p))) p n (writer-step n m) (refuse 3)
-        (λ e. subst (λ q. Outcome q (seen n m (step q)) (writer-step n m)) (sym e) writer-steps)
+        if-equal (Outcome p (seen n m (step p))) p n (writer-step shape m) (refuse 3)
+        (λ e. subst (λ q. Outcome q (seen n m (step q)) (writer-step shape m)) (sym e) writer-steps)
         (λ d y. omega arith))
       where
-        writer-steps : Outcome n (seen n m (step n)) (writer-step n m)
+        writer-steps : Outcome n (seen n m (step n)) (writer-step shape m)
         writer-steps =
-            subst (λ b. Outcome n (seen-step b m n) (writer-step n m))
+            subst (λ b. Outcome n (seen-step b m n) (writer-step shape m))
             (sym (le-ltb n n (omega arith))) writer-planned

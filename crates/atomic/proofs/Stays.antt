@@ -7,9 +7,9 @@ use Prim.Native.Nat.{ℕ, suc, _+_, _*_, _≤_, _<_}
 use native.Mathlib.Omega.{arith}
 use borrow.Author.Tests.{ne-eqb}
 use Rattle.theory.specs.Place.{Memory, apply}
-use Rattle.register.specs.Area.{current, index, counter, size}
-use Rattle.register.specs.Area.{phase, last, pos, len, finished, writer-phase, last-slot, in-hand}
-use Rattle.register.specs.Area.{writer-pos, writer-len, old-word, writes-ended}
+use Rattle.register.specs.Shape.{Shape}
+use Rattle.register.specs.Area.{current, index, counter, size, phase, last, pos, len, finished, writer-phase}
+use Rattle.register.specs.Area.{last-slot, in-hand, writer-pos, writer-len, old-word, writes-ended}
 use Rattle.register.specs.Steps.{unbinds}
 use Rattle.theory.specs.History.{Deed, Event}
 use Rattle.theory.proofs.Tests.{eqb-same, at-each}
@@ -19,18 +19,21 @@ use Rattle.atomic.proofs.Frames.{reader-leaves, Unfilled, WriterLeaves,
 use Rattle.register.specs.Conditions.{WordWhole, DeskWhole, WriterWhole, Slot, Desk, Writer, Whole}
 use Rattle.atomic.proofs.WriterDesk.{further, scanning-on, beginning, ending}
 
-module _ (n c : ℕ) (big : n < 4294967296) {m : Memory} (v : Whole n c m) where
+module _ (shape : Shape) (big : shape .n < 4294967296) {m : Memory} (v : Whole shape m) where
+  abbrev n : ℕ
+  n = shape .n
+
   abbrev Slots : Memory → Type 0
-  Slots m′ = (s : ℕ) → s < n + 2 → Slot n c m′ s
+  Slots m′ = (s : ℕ) → s < n + 2 → Slot shape m′ s
 
   -- ---- a reader: its desk once it is in phase k, and what it may change
 
   module _ {r : ℕ} (l : r < n) where
-    d : Desk n c m r
+    d : Desk shape m r
     d = v .desk r l
 
     -- it copies nothing
-    turned : (k s : ℕ) → k ≤ 4 → s < n + 2 → DeskWhole n c k s (m (pos r)) (m (len r)) (m (finished r))
+    turned : (k s : ℕ) → k ≤ 4 → s < n + 2 → DeskWhole shape k s (m (pos r)) (m (len r)) (m (finished r))
     turned k s hi slot =
         record {
           phases = omega arith;
@@ -43,7 +46,7 @@ module _ (n c : ℕ) (big : n < 4294967296) {m : Memory} (v : Whole n c m) where
 
     -- step 4
     taking : (k flag : ℕ) → flag ≤ 1 → k ≤ 5 → (k ≡ 5 → 0 < m (size (m (last r))))
-        → DeskWhole n c k (m (last r)) 0 (m (size (m (last r)))) flag
+        → DeskWhole shape k (m (last r)) 0 (m (size (m (last r)))) flag
     taking k flag fl hi more =
         let words = v .slot (m (last r)) (d .slot) .words in
         record { phases = hi; slot = d .slot; part = omega arith; words = words; flag = fl; copying = more }
@@ -51,12 +54,12 @@ module _ (n c : ℕ) (big : n < 4294967296) {m : Memory} (v : Whole n c m) where
     -- step 5
     copying : (k flag : ℕ) → m (phase r) ≡ 5 → flag ≤ 1 → k ≤ 5
         → (k ≡ 5 → suc (m (pos r)) < m (len r))
-        → DeskWhole n c k (m (last r)) (suc (m (pos r))) (m (len r)) flag
+        → DeskWhole shape k (m (last r)) (suc (m (pos r))) (m (len r)) flag
     copying k flag e fl hi more =
         record { phases = hi; slot = d .slot; part = d .copying e; words = d .words; flag = fl; copying = more }
 
-    reader-own : {d : Deed} {m′ : Memory} → ReaderDoes n m r d m′
-        → WordWhole n (m′ current) × Slots m′ × Desk n c m′ r
+    reader-own : {d : Deed} {m′ : Memory} → ReaderDoes shape m r d m′
+        → WordWhole shape (m′ current) × Slots m′ × Desk shape m′ r
     reader-own (Moves.read-starts e) =
         (v .word, v .slot, rw (eqb-same r) (turned 1 (m (last r)) (omega arith) (d .slot)))
     reader-own (Moves.finds-same e x) =
@@ -65,7 +68,7 @@ module _ (n c : ℕ) (big : n < 4294967296) {m : Memory} (v : Whole n c m) where
         (v .word, v .slot, rw (eqb-same r) (turned 2 (m (last r)) (omega arith) (d .slot)))
     reader-own (Moves.leaves-slot e x) = (
       v .word,
-      at-each (Slot n c (apply m (unbinds m r))) (m (last r))
+      at-each (Slot shape (apply m (unbinds m r))) (m (last r))
           (rw (eqb-same (m (last r)))
           (let s = v .slot (m (last r)) (d .slot) in
           record { start = s .start; end = x; words = s .words }))
@@ -93,28 +96,28 @@ module _ (n c : ℕ) (big : n < 4294967296) {m : Memory} (v : Whole n c m) where
 
   one-slot : {m′ : Memory} → WriterLeaves m m′ → (t : ℕ)
       → (2 ≤ m writer-phase → m writer-phase ≤ 5 → t ≡ m in-hand)
-      → (m writer-phase ≡ 7 → t ≡ index (m old-word)) → Slot n c m′ t → Slots m′
+      → (m writer-phase ≡ 7 → t ≡ index (m old-word)) → Slot shape m′ t → Slots m′
   one-slot {m′} f t hand old own =
-      at-each (Slot n c m′) t own
+      at-each (Slot shape m′) t own
       (λ s h d.
       let away : Unfilled m s = λ lo hi e. d (e ∙ sym (hand lo hi)) in
       rw (f .start s away (λ z e. d (e ∙ sym (old z))), f .end s away, f .held s away .length) (v .slot s h))
 
-  abbrev w : Writer n c m
+  abbrev w : Writer shape m
   w = v .writer
 
   -- the writer has pos words in and goes on to phase k
   on-to : (k pos : ℕ) → 1 ≤ m writer-phase → 2 ≤ k → k ≤ 7 → pos ≤ m writer-len
       → (k ≡ 2 → pos < m writer-len)
-      → WriterWhole n c k (m last-slot) (m in-hand) pos (m writer-len) (m old-word) (m writes-ended)
+      → WriterWhole shape k (m last-slot) (m in-hand) pos (m writer-len) (m old-word) (m writes-ended)
   on-to k pos busy lo hi part more = further w k pos (m old-word) (λ z. omega arith) lo hi part more (w .before)
 
   -- it has all in, and goes on to phase k
-  all-in : (k : ℕ) → 1 ≤ m writer-phase → 3 ≤ k → k ≤ 7 → Writer n c (apply m (to-phase k))
+  all-in : (k : ℕ) → 1 ≤ m writer-phase → 3 ≤ k → k ≤ 7 → Writer shape (apply m (to-phase k))
   all-in k busy lo hi = on-to k (m writer-pos) busy (omega arith) hi (w .part) (λ e. absurd (omega arith))
 
-  writer-own : {d : Deed} {m′ : Memory} → WriterDoes n c m d m′ → WriterLeaves m m′
-      → WordWhole n (m′ current) × Slots m′ × Writer n c m′
+  writer-own : {d : Deed} {m′ : Memory} → WriterDoes shape m d m′ → WriterLeaves m m′
+      → WordWhole shape (m′ current) × Slots m′ × Writer shape m′
   writer-own (Moves.write-starts u l e more) f = (v .word, v .slot, beginning w _ l more)
   writer-own (Moves.picks-empty e d x y) f =
       (v .word, v .slot, all-in 3 (omega arith) (omega arith) (omega arith))
@@ -168,14 +171,14 @@ module _ (n c : ℕ) (big : n < 4294967296) {m : Memory} (v : Whole n c m) where
       )
 
   -- every accepted move
-  pub stays-whole : {m′ : Memory} {e : Event} → Does n c m e m′ → Whole n c m′
+  pub stays-whole : {m′ : Memory} {e : Event} → Does shape m e m′ → Whole shape m′
   stays-whole {m′} (by-reader {r = r} l x) =
       let (word, slot, own) = reader-own l x in
       let f = reader-leaves x in
       record {
         word = word;
         slot = slot;
-        desk = at-each (Desk n c m′) r own
+        desk = at-each (Desk shape m′) r own
             (λ q h d.
             rw (f .desk 0 q 0 d, f .desk 1 q 0 d, f .desk 2 q 0 d, f .desk 3 q 0 d, f .desk 5 q 0 d) (v .desk q h));
         writer =

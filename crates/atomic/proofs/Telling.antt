@@ -14,21 +14,19 @@ use lib.Dec.{ltb}
 use lib.ListN.{length, getD}
 use borrow.Author.Tests.{lt-ltb}
 use Rattle.theory.specs.Place.{Record, Place, Memory, apply}
+use Rattle.register.specs.Shape.{Shape}
 use Rattle.register.specs.Area.{current, index, size, slot-write-number, contents, phase, last, pos, len}
-use Rattle.register.specs.Area.{desk-write-number, read-record}
-use Rattle.register.specs.Area.{writer-phase, in-hand, writer-pos, write-record}
+use Rattle.register.specs.Area.{desk-write-number, read-record, writer-phase, in-hand, writer-pos, write-record}
 use Rattle.theory.specs.History.{Deed, Event, Write, History, noted}
 use Rattle.theory.proofs.Tests.{eqb-same, at-each}
 use Rattle.theory.proofs.Places.{row, row-same, row-record}
 use Rattle.theory.proofs.Placed.{sound-noted, began-noted, Needs, newest, length-closed, newest-closed}
 use Rattle.theory.proofs.Copying.{Reading, reading-later, not-yet, from-sizing, bound-to-newest, copy-starts}
-use Rattle.theory.proofs.Copying.{no-words, copy-goes-on, copy-ends}
-use Rattle.theory.proofs.Copying.{Writing, write-begins, slot-found, words-there, slot-passed, fill-goes-on}
-use Rattle.theory.proofs.Copying.{fill-ends}
-use Rattle.theory.proofs.Copying.{published-whole, publishes-it, ends-it}
+use Rattle.theory.proofs.Copying.{no-words, copy-goes-on, copy-ends, Writing, write-begins, slot-found, words-there}
+use Rattle.theory.proofs.Copying.{slot-passed, fill-goes-on, fill-ends, published-whole, publishes-it, ends-it}
 use Rattle.theory.proofs.Noted
-use Rattle.theory.proofs.Noted.{beside, WritesKept, writes-kept, needs-none, reading-noted}
-use Rattle.theory.proofs.Noted.{begins-write, looks-on, writes-on, ends-write}
+use Rattle.theory.proofs.Noted.{beside, WritesKept, writes-kept, needs-none, reading-noted, begins-write, looks-on}
+use Rattle.theory.proofs.Noted.{writes-on, ends-write}
 use Rattle.atomic.proofs.Moves
 use Rattle.atomic.proofs.Moves.{ReaderDoes, WriterDoes, Does, by-reader, by-writer, to-phase}
 use Rattle.atomic.proofs.Frames.{desk-word, RecordKept, ReaderLeaves, reader-leaves, reader-seen}
@@ -45,8 +43,11 @@ desk-holds u f =
     row-same (length u) (λ j. cond (ltb j (length u)) (getD u j 0) (f j)) (λ j. getD u j 0)
     (λ j l. rw (lt-ltb j (length u) l)) ∙ row-record u
 
-module _ (n : ℕ) (first : Record) (big : n < 4294967296) (total : ℕ) {m : Memory} {h : History}
-    (g : Guarded n m) (v : Told n first m h) (t : h .moves < total) where
+module _ (shape : Shape) (first : Record) (big : shape .n < 4294967296) (total : ℕ) {m : Memory} {h : History}
+    (g : Guarded shape m) (v : Told (shape .n) first m h) (t : h .moves < total) where
+  abbrev n : ℕ
+  n = shape .n
+
   holds-kept : {m′ : Memory} {s : ℕ} {u : Record} {k : ℕ} → RecordKept m m′ s → Holds m s u k
       → Holds m′ s u k
   holds-kept {m′} {s} {u} {k} f = transport (sym same)
@@ -86,7 +87,7 @@ module _ (n : ℕ) (first : Record) (big : n < 4294967296) (total : ℕ) {m : Me
 
   module _ {r : ℕ} (l : r < n) where
     -- what its move needs, and what it has after it
-    reader-own : {d : Deed} {m′ : Memory} → ReaderDoes n m r d m′
+    reader-own : {d : Deed} {m′ : Memory} → ReaderDoes shape m r d m′
         → Needs first h r d
         × Reads n first m′ (noted total h r d .began r) (noted total h r d .moves) (noted total h r d .writes) r
     reader-own (Moves.read-starts e) = (tt, rw (eqb-same r) (not-yet 1 (omega arith)))
@@ -106,7 +107,7 @@ module _ (n : ℕ) (first : Record) (big : n < 4294967296) (total : ℕ) {m : Me
     )
 
   -- the writer's words, after a move of a reader
-  writes-kept-by : {r : ℕ} {m′ : Memory} (h′ : History) → ReaderLeaves n m m′ r → WritesKept h h′
+  writes-kept-by : {r : ℕ} {m′ : Memory} (h′ : History) → ReaderLeaves shape m m′ r → WritesKept h h′
       → Writes n first m′ h′
   writes-kept-by {m′ = m′} h′ f k = transport (sym same) (v .writer)
     where
@@ -127,7 +128,7 @@ module _ (n : ℕ) (first : Record) (big : n < 4294967296) (total : ℕ) {m : Me
       (omega arith) (v .writer .filled (omega arith) (omega arith))
       (λ z. v .writer .sized (omega arith) (omega arith))
 
-  writer-own : {c : ℕ} {d : Deed} {m′ : Memory} → WriterDoes n c m d m′
+  writer-own : {d : Deed} {m′ : Memory} → WriterDoes shape m d m′
       → Writes n first m′ (noted total h n d)
   writer-own (Moves.write-starts u l e more) =
       write-begins (v .writer) high u (λ j. cond (ltb j (length u)) (getD u j 0) (m (write-record j))) e
@@ -175,7 +176,7 @@ module _ (n : ℕ) (first : Record) (big : n < 4294967296) (total : ℕ) {m : Me
         (same-current (λ e. omega (arith, x .before)))
 
   -- every accepted move
-  pub tells : {c : ℕ} {e : Event} {m′ : Memory} → Does n c m e m′
+  pub tells : {e : Event} {m′ : Memory} → Does shape m e m′
       → Told n first m′ (noted total h (e .who) (e .what))
   tells {m′ = m′} (by-reader {r = r} {d = d} l x) =
       let (needs, own) = reader-own l x in

@@ -5,9 +5,9 @@ use mathlib.Core.List.{List}
 use Prim.Native.Nat.{ℕ, _≤_, _<_}
 use lib.ListN.{length}
 use Rattle.theory.specs.Place.{Record, Memory}
-use Rattle.register.specs.Area.{current, index, size, slot-write-number, contents}
-use Rattle.register.specs.Area.{phase, last, pos, len, desk-write-number, read-record}
-use Rattle.register.specs.Area.{writer-phase, in-hand, writer-pos, writer-len, writes-ended, write-record}
+use Rattle.register.specs.Area.{current, index, size, slot-write-number, contents, phase, last, pos, len}
+use Rattle.register.specs.Area.{desk-write-number, read-record, writer-phase, in-hand, writer-pos, writer-len}
+use Rattle.register.specs.Area.{writes-ended, write-record}
 use Rattle.theory.specs.History.{Write, History}
 use Rattle.theory.proofs.Places.{row}
 use Rattle.theory.proofs.Placed.{Sound, newest}

@@ -3,13 +3,15 @@ use mathlib.Core.Path.{_≡_, refl}
 use mathlib.Core.Logic.{_≢_}
 use Prim.Native.Nat.{ℕ, suc, _+_, _≤_, _<_}
 use native.Mathlib.Omega.{arith}
+use Rattle.register.specs.Shape.{Shape}
 use Rattle.register.specs.Area.{most-writes}
 use Rattle.register.specs.Conditions.{WordWhole, WriterWhole}
 
-module _ {n c phase last hand pos len old ended : ℕ} (v : WriterWhole n c phase last hand pos len old ended) where
+module _ {shape : Shape} {phase last hand pos len old ended : ℕ}
+    (v : WriterWhole shape phase last hand pos len old ended) where
   -- it goes on, from its slot to its end
   pub further : (k pos′ old′ : ℕ) → phase ≢ 0 → 2 ≤ k → k ≤ 7 → pos′ ≤ len
-      → (k ≡ 2 → pos′ < len) → WordWhole n old′ → WriterWhole n c k last hand pos′ len old′ ended
+      → (k ≡ 2 → pos′ < len) → WordWhole shape old′ → WriterWhole shape k last hand pos′ len old′ ended
   further k pos′ old′ busy lo hi part copying before =
       record {
         phases = hi;
@@ -24,8 +26,8 @@ module _ {n c phase last hand pos len old ended : ℕ} (v : WriterWhole n c phas
       }
 
   -- it looks on
-  pub scanning-on : (hand′ : ℕ) → phase ≡ 1 → hand′ < n + 2
-      → WriterWhole n c phase last hand′ pos len old ended
+  pub scanning-on : (hand′ : ℕ) → phase ≡ 1 → hand′ < shape .n + 2
+      → WriterWhole shape phase last hand′ pos len old ended
   scanning-on hand′ e l =
       record {
         phases = v .phases;
@@ -40,8 +42,8 @@ module _ {n c phase last hand pos len old ended : ℕ} (v : WriterWhole n c phas
       }
 
   -- it begins
-  pub beginning : (len′ : ℕ) → len′ ≤ c → ended < most-writes
-      → WriterWhole n c 1 last 0 0 len′ old ended
+  pub beginning : (len′ : ℕ) → len′ ≤ shape .c → ended < most-writes
+      → WriterWhole shape 1 last 0 0 len′ old ended
   beginning len′ l more =
       record {
         phases = omega arith;
@@ -56,7 +58,7 @@ module _ {n c phase last hand pos len old ended : ℕ} (v : WriterWhole n c phas
       }
 
   -- it ends
-  pub ending : WriterWhole n c 0 hand hand pos len old (suc ended)
+  pub ending : WriterWhole shape 0 hand hand pos len old (suc ended)
   ending =
       record {
         phases = omega arith;

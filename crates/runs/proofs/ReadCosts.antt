@@ -8,6 +8,7 @@ use native.Mathlib.Omega.{arith}
 use lib.Dec.{eqb, lit<}
 use lib.ListN.{length}
 use Rattle.theory.specs.Place.{Memory, apply}
+use Rattle.register.specs.Shape.{Shape}
 use Rattle.register.specs.Area.{readers, memory, phase, pos, len, read-record}
 use Rattle.register.specs.Steps.{Move, copies}
 use Rattle.register.specs.Calls.{answered}
@@ -40,7 +41,7 @@ abbrev pub paid : Memory → ℕ → ℕ
 paid m r = cond (eqb (m (phase r)) 0) 0 (cond (eqb (m (phase r)) 5) (suc (m (pos r))) 1)
 
 -- a move of reader r pays for what it got
-pays-own : {n : ℕ} {m m′ : Memory} {r : ℕ} {d : Deed} → ReaderDoes n m r d m′
+pays-own : {n : ℕ} {m m′ : Memory} {r : ℕ} {d : Deed} → ReaderDoes shape m r d m′
     → costs (got-of d) + paid m′ r ≤ paid m r + 1
 pays-own {r = r} (moves.read-starts e) = rw (eqb-same r, e) (omega arith)
 pays-own {r = r} (moves.finds-same e x) = rw (eqb-same r, e) (omega arith)
@@ -63,7 +64,7 @@ got-none (writes-on x) = refl
 got-none (publishes-it x) = refl
 got-none (ends-write x) = refl
 
-pays : {n c : ℕ} {m m′ : Memory} {e : Event} → Does n c m e m′
+pays : {shape : Shape} {m m′ : Memory} {e : Event} → Does shape m e m′
     → costs (got-of (e .what)) + sum n (paid m′) ≤ sum n (paid m) + 1
 pays {n} {c} {m} {m′} (by-reader {r = r} l x) =
     let f = reader-leaves x in

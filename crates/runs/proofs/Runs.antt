@@ -16,8 +16,8 @@ use lib.Dec.{eqb, leb}
 use lib.ListN.{length}
 use borrow.Author.Tests.{eq-eqb, ne-eqb}
 use Rattle.theory.specs.Table.{total}
-use Rattle.register.specs.Area.{form1}
-use Rattle.register.specs.Area.{readers as area-readers, memory, phase}
+use Rattle.register.specs.Shape.{table}
+use Rattle.register.specs.Area.{shape-of, readers as area-readers, memory, phase}
 use Rattle.register.specs.Steps.{Move, write}
 use Rattle.register.specs.Calls.{Answer, refused, fresh, made, answered}
 use Rattle.register.specs.Calls.{after}
@@ -162,9 +162,9 @@ nothing-paid b e =
   where
     idle : (r : ℕ) → paid (memory (first-state b .area)) r ≡ 0
     idle r =
-        rw (ap (λ m. m (phase r)) (fresh-memory (readers b) (capacity b) (starting-record b) (in-range b e)
+        rw (ap (λ m. m (phase r)) (fresh-memory (readers b) (shape-of b .c) (starting-record b) (in-range b e)
         (short b e))
-        ∙ at-desk (readers b) (capacity b) (starting-record b) 0 r)
+        ∙ at-desk (readers b) (shape-of b .c) (starting-record b) 0 r)
 
 -- ---- it is a run of the demands
 
@@ -176,9 +176,9 @@ plays-a-run b e =
         n = n;
         c = c;
         first = v;
-        slice = fresh n c v;
+        slice = fresh shape v;
         moves = calls;
-        made-well = well b e (fresh n c v) exact;
+        made-well = well b e (fresh shape v) exact;
         accepted = subst (λ a. Accepted a calls) (sym same) (all .accepted);
       };
       its-readers = refl;
@@ -187,9 +187,9 @@ plays-a-run b e =
       its-moves = refl;
       its-answers = ap (λ a. answers-to a calls) same ∙ all .answers;
       its-reads =
-          told-gots (length calls) nothing-yet (events (made 1 n c v (fresh n c v) .area) calls)
+          told-gots (length calls) nothing-yet (events (made shape v (fresh shape v) .area) calls)
           ∙ ap (λ a. gots (events a calls)) same
-          ∙ whole-got b (moves b) 0 (first-state b) (fresh-readers n c v (short b e));
+          ∙ whole-got b (moves b) 0 (first-state b) (fresh-readers shape v (short b e));
       its-area = ap (λ a. after a calls) same ∙ all .area;
       its-accepted =
           omega (arith, counts .accepted, ap length (all .answers), answers-to-length (first-state b .area) calls);
@@ -207,7 +207,7 @@ plays-a-run b e =
     n = readers b
 
     c : ℕ
-    c = capacity b
+    c = shape-of b .c
 
     v : List ℕ
     v = starting-record b
@@ -219,11 +219,11 @@ plays-a-run b e =
     calls : List Move
     calls = accepted-calls b (moves b) 0 (first-state b)
 
-    exact : length (fresh n c v) ≡ total (form1 n c)
-    exact = fresh-length n c v (short b e)
+    exact : length (fresh shape v) ≡ total (table shape)
+    exact = fresh-length shape v (short b e)
 
-    same : made 1 n c v (fresh n c v) .area ≡ fresh n c v
-    same = started b e (fresh n c v) exact
+    same : made shape v (fresh shape v) .area ≡ fresh shape v
+    same = started b e (fresh shape v) exact
 
     counts : Adds no-tally (run-tally b) (run-answers b)
     counts = adds no-tally (run-answers b)
@@ -236,7 +236,7 @@ few-words-read b e =
     let played-run = plays-a-run b e in
     let all = whole b (moves b) 0 (first-state b) in
     let calls = accepted-calls b (moves b) 0 (first-state b) in
-    let kept = fresh-readers (readers b) (capacity b) (starting-record b) (short b e) in
+    let kept = fresh-readers (readers b) (shape-of b .c) (starting-record b) (short b e) in
     let paid-for = reads-cost (readers b) (first-state b .area) calls kept (all .accepted) in
     let same = ap costs (whole-got b (moves b) 0 (first-state b) kept) in
     omega (
