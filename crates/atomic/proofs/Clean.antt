@@ -4,7 +4,7 @@
 -- Assumes nothing.
 use mathlib.Core.Path.{_≡_, sym}
 use mathlib.Core.Logic.{_≢_}
-use Prim.Native.Nat.{ℕ, _*_, _<_}
+use Prim.Native.Nat.{ℕ, _<_}
 use native.Mathlib.Omega.{arith}
 use Rattle.theory.specs.Place.{Memory}
 use Rattle.register.specs.Area.{current, index, r-end, phase, last, writer-phase, in-hand}
@@ -15,10 +15,10 @@ use Rattle.theory.proofs.Noted.{begins-write, looks-on, writes-on, publishes-it
 use Rattle.atomic.proofs.Moves
 use Rattle.atomic.proofs.Moves.{ReaderDoes, Does, by-reader, by-writer}
 use Rattle.atomic.proofs.Frames.{reader-leaves}
-use Rattle.atomic.proofs.Frames.{Unfilled, WriterLeaves, writer-leaves, WriterSeen, writer-seen}
+use Rattle.atomic.proofs.Frames.{WriterLeaves, writer-leaves, WriterSeen, writer-seen}
 use Rattle.atomic.proofs.Counting.{Counted}
 use Rattle.atomic.proofs.Balance.{hand-alone}
-use Rattle.atomic.proofs.Held.{unheld, scan-within, more-slots, end-room, counter-room}
+use Rattle.atomic.proofs.Held.{hand-apart, unheld, scan-within, more-slots, end-room, counter-room}
 use Rattle.atomic.proofs.Guarded.{Guarded}
 
 -- a reader that is about to leave is not bound to the current slot
@@ -45,9 +45,8 @@ module _ (n : ℕ) (big : n < 4294967296) {m : Memory} (i : Counted n m) (v : Cl
   -- the writer publishes nothing
   not-published : {m′ : Memory} → WriterLeaves m m′ → m writer-phase ≢ 6 → Clean n m′
   not-published f d =
-      let away : Unfilled m (index (m current)) = λ lo hi e. hand-alone (i .counts) lo (omega arith) .3 (sym e) in
       record {
-        nobody = rw (f .word d, f .end (index (m current)) away) (v .nobody);
+        nobody = rw (f .word d, f .end (index (m current)) (hand-apart n m i)) (v .nobody);
         turned = λ q k. rw (f .desk 0 q 0, f .desk 1 q 0, f .word d) (v .turned q k);
       }
 
@@ -57,11 +56,10 @@ module _ (n : ℕ) (big : n < 4294967296) {m : Memory} (i : Counted n m) (v : Cl
   writer-clean f (writes-on x) = not-published f (λ e. omega (arith, x .before))
   writer-clean f (publishes-it x) =
       let e = x .before in
-      let same : index (m in-hand * 4294967296) ≡ m in-hand = omega arith in
       record {
-        nobody = rw (x .new, same, f .end (m in-hand) (λ lo hi. absurd (omega arith)))
+        nobody = rw (x .slot, f .end (m in-hand) (λ lo hi. absurd (omega arith)))
             (hand-alone (i .counts) (omega arith) (omega arith) .5 (omega arith));
-        turned = λ q k. rw (f .desk 0 q 0, f .desk 1 q 0, x .new, same)
+        turned = λ q k. rw (f .desk 0 q 0, f .desk 1 q 0, x .slot)
             (λ y. unheld n m i (omega arith) (omega arith) q k (λ z. omega arith));
       }
   writer-clean f (ends-write x) = not-published f (λ e. omega (arith, x .before))
@@ -80,7 +78,7 @@ module _ (n : ℕ) (big : n < 4294967296) {m : Memory} (i : Counted n m) (v : Cl
 pub guards : {n c : ℕ} {m : Memory} → Counted n m → Clean n m → Whole n c m → Guarded n m
 guards {n} {c} {m} i v whole =
     record {
-      hand-apart = λ lo hi e. hand-alone (i .counts) lo (omega arith) .3 (sym e);
+      hand-apart = hand-apart n m i;
       unheld = λ r l y lo hi. unheld n m i lo (omega arith) r l (λ z. omega arith);
       scan-within = scan-within n m i;
       more-slots = λ e taken. more-slots n m i e (not-differ-and-same _ _ _ _ taken);
