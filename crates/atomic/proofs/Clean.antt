@@ -4,7 +4,7 @@
 -- Assumes nothing.
 use mathlib.Core.Path.{_≡_, sym}
 use mathlib.Core.Logic.{_≢_}
-use Prim.Native.Nat.{ℕ, _*_, _<_}
+use Prim.Native.Nat.{ℕ, _<_}
 use native.Mathlib.Omega.{arith}
 use Rattle.theory.specs.Place.{Memory}
 use Rattle.register.specs.Shape.{Shape}
@@ -15,11 +15,10 @@ use Rattle.theory.proofs.Tests.{not-differ-and-same, eqb-same, at-each}
 use Rattle.theory.proofs.Noted.{begins-write, looks-on, writes-on, publishes-it, ends-write}
 use Rattle.atomic.proofs.Moves
 use Rattle.atomic.proofs.Moves.{ReaderDoes, Does, by-reader, by-writer}
-use Rattle.atomic.proofs.Frames.{reader-leaves, Unfilled, WriterLeaves, writer-leaves, WriterSeen}
-use Rattle.atomic.proofs.Frames.{writer-seen}
+use Rattle.atomic.proofs.Frames.{reader-leaves, WriterLeaves, writer-leaves, WriterSeen, writer-seen}
 use Rattle.atomic.proofs.Counting.{Counted}
 use Rattle.atomic.proofs.Balance.{hand-alone}
-use Rattle.atomic.proofs.Held.{unheld, scan-within, more-slots, end-room, counter-room}
+use Rattle.atomic.proofs.Held.{hand-apart, unheld, scan-within, more-slots, end-room, counter-room}
 use Rattle.atomic.proofs.Guarded.{Guarded}
 
 -- a reader that is about to leave is not bound to the current slot
@@ -49,9 +48,8 @@ module _ (shape : Shape) (big : shape .n < 4294967296) {m : Memory} (i : Counted
   -- the writer publishes nothing
   not-published : {m′ : Memory} → WriterLeaves m m′ → m writer-phase ≢ 6 → Clean n m′
   not-published f d =
-      let away : Unfilled m (index (m current)) = λ lo hi e. hand-alone (i .counts) lo (omega arith) .3 (sym e) in
       record {
-        nobody = rw (f .word d, f .end (index (m current)) away) (v .nobody);
+        nobody = rw (f .word d, f .end (index (m current)) (hand-apart shape m i)) (v .nobody);
         turned = λ q k. rw (f .desk 0 q 0, f .desk 1 q 0, f .word d) (v .turned q k);
       }
 
@@ -61,11 +59,10 @@ module _ (shape : Shape) (big : shape .n < 4294967296) {m : Memory} (i : Counted
   writer-clean f (writes-on x) = not-published f (λ e. omega (arith, x .before))
   writer-clean f (publishes-it x) =
       let e = x .before in
-      let same : index (m in-hand * 4294967296) ≡ m in-hand = omega arith in
       record {
-        nobody = rw (x .new, same, f .end (m in-hand) (λ lo hi. absurd (omega arith)))
+        nobody = rw (x .slot, f .end (m in-hand) (λ lo hi. absurd (omega arith)))
             (hand-alone (i .counts) (omega arith) (omega arith) .5 (omega arith));
-        turned = λ q k. rw (f .desk 0 q 0, f .desk 1 q 0, x .new, same)
+        turned = λ q k. rw (f .desk 0 q 0, f .desk 1 q 0, x .slot)
             (λ y. unheld shape m i (omega arith) (omega arith) q k (λ z. omega arith));
       }
   writer-clean f (ends-write x) = not-published f (λ e. omega (arith, x .before))
@@ -84,7 +81,7 @@ module _ (shape : Shape) (big : shape .n < 4294967296) {m : Memory} (i : Counted
 pub guards : {shape : Shape} {m : Memory} → Counted shape m → Clean (shape .n) m → Whole shape m → Guarded shape m
 guards {shape} {m} i v whole =
     record {
-      hand-apart = λ lo hi e. hand-alone (i .counts) lo (omega arith) .3 (sym e);
+      hand-apart = hand-apart shape m i;
       unheld = λ r l y lo hi. unheld shape m i lo (omega arith) r l (λ z. omega arith);
       scan-within = scan-within shape m i;
       more-slots = λ e taken. more-slots shape m i e (not-differ-and-same _ _ _ _ taken);

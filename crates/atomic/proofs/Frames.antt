@@ -11,7 +11,7 @@ use mathlib.Core.Path.{_≡_, refl, _∙_}
 use mathlib.Core.Logic.{_≢_}
 use mathlib.Core.Bool.{Bool, true, false, cond, _&&_}
 use mathlib.Core.List.{List, _++_, map}
-use Prim.Native.Nat.{ℕ, _-_, _*_, _≤_, _<_}
+use Prim.Native.Nat.{ℕ, _-_, _≤_, _<_}
 use native.Mathlib.Omega.{arith}
 use lib.Dec.{eqb, leb, leb→le}
 use borrow.Author.Tests.{ne-eqb}
@@ -200,7 +200,7 @@ module _ {m : Memory} where
   writer-leaves (Moves.exchanges e) = leaves-all (publishes m) (rw e)
   writer-leaves (Moves.write-ends e) = leaves-all (freezes m) (rw (e, eqb-same (index (m old-word))))
 
--- the writer goes on, publishes, ends: its phases before and after, and the word that it publishes
+-- the writer goes on, publishes, ends: its phases before and after, and the slot that it publishes
 pub record WriterGoes (m m′ : Memory) : Type 0 where
   pub before : m writer-phase < 6
   pub busy : m′ writer-phase ≢ 0
@@ -209,7 +209,7 @@ pub record WriterGoes (m m′ : Memory) : Type 0 where
 pub record WriterPublishes (m m′ : Memory) : Type 0 where
   pub before : m writer-phase ≡ 6
   pub after : m′ writer-phase ≡ 7
-  pub new : m′ current ≡ m in-hand * 4294967296
+  pub slot : index (m′ current) ≡ m in-hand
 
 pub record WriterEnds (m m′ : Memory) : Type 0 where
   pub before : m writer-phase ≡ 7
@@ -232,5 +232,5 @@ writer-seen (Moves.fills-last e x) = writes-on (goes (omega arith) (λ z. omega 
 writer-seen (Moves.sets-size e) = writes-on (goes (omega arith) (λ z. omega arith) (λ z. omega arith))
 writer-seen (Moves.clears-first e) = writes-on (goes (omega arith) (λ z. omega arith) (λ z. omega arith))
 writer-seen (Moves.clears-second e) = writes-on (goes (omega arith) (λ z. omega arith) (λ z. omega arith))
-writer-seen (Moves.exchanges e) = publishes-it (record { before = e; after = refl; new = refl })
+writer-seen (Moves.exchanges e) = publishes-it (record { before = e; after = refl; slot = omega arith })
 writer-seen (Moves.write-ends e) = ends-write (record { before = e; after = refl })

@@ -13,6 +13,7 @@ use Rattle.register.specs.Area.{current, index, counter, r-start, r-end, phase,
 use Rattle.register.specs.Area.{in-hand, old-word}
 use Rattle.theory.proofs.Tests.{hit, miss}
 use Rattle.theory.proofs.Sums.{sum-one, sum-at-most, sum-member, sum-ones}
+use Rattle.atomic.proofs.Frames.{Unfilled}
 use Rattle.atomic.proofs.Balance.{Stage, idle, scanning, filling, told, Settled, hand-alone, hand-held}
 use Rattle.atomic.proofs.Counting.{is-bound, bound, bound-here, unbound, bound-at-most, Counted}
 
@@ -60,6 +61,10 @@ module _ (shape : Shape) (m : Memory) where
       at-most false q = bound-at-most s (m (phase q)) (m (last q))
 
   module _ (v : Counted shape m) where
+    -- the slot that the writer fills is not the current one
+    pub hand-apart : Unfilled m (index (m current))
+    hand-apart lo hi e = hand-alone (v .counts) lo (omega arith) .3 (sym e)
+
     -- the slot in the writer's hand has no reader
     pub unheld : 2 ≤ m writer-phase → m writer-phase ≤ 6 → (r : ℕ) → r < n → m (phase r) ≢ 3
         → m (last r) ≢ m in-hand

@@ -119,13 +119,11 @@ module _ (shape : Shape) (big : shape .n < 4294967296) {m : Memory} (v : Whole s
   writer-own : {d : Deed} {m′ : Memory} → WriterDoes shape m d m′ → WriterLeaves m m′
       → WordWhole shape (m′ current) × Slots m′ × Writer shape m′
   writer-own (Moves.write-starts u l e more) f = (v .word, v .slot, beginning w _ l more)
-  writer-own (Moves.picks-empty e d x y) f =
-      (v .word, v .slot, all-in 3 (omega arith) (omega arith) (omega arith))
+  writer-own (Moves.picks-empty e d x y) f = (v .word, v .slot, all-in 3 (omega arith) (omega arith) (omega arith))
   writer-own (Moves.picks-slot e d x y) f =
       let more : m writer-pos < m writer-len = omega (arith, w .unmoved e) in
       (v .word, v .slot, on-to 2 _ (omega arith) (omega arith) (omega arith) (w .part) (λ z. more))
-  writer-own (Moves.passes-slot e d x) f =
-      (v .word, v .slot, scanning-on w _ e (omega (arith, w .hand-one)))
+  writer-own (Moves.passes-slot e d x) f = (v .word, v .slot, scanning-on w _ e (omega (arith, w .hand-one)))
   writer-own (Moves.fills-word e x) f =
       let more : suc (m writer-pos) < m writer-len = omega (arith, w .copying e) in
       (v .word, v .slot, on-to 2 _ (omega arith) (omega arith) (omega arith) (w .copying e) (λ z. more))

@@ -8,7 +8,7 @@ use mathlib.Core.Path.{_≡_, refl, sym, ap, transport, _∙_}
 use mathlib.Core.Logic.{_≢_}
 use mathlib.Core.Bool.{cond}
 use mathlib.Core.List.{List}
-use Prim.Native.Nat.{ℕ, suc, _*_, _≤_, _<_}
+use Prim.Native.Nat.{ℕ, suc, _≤_, _<_}
 use native.Mathlib.Omega.{arith}
 use lib.Dec.{ltb}
 use lib.ListN.{length, getD}
@@ -48,6 +48,7 @@ module _ (shape : Shape) (first : Record) (big : shape .n < 4294967296) (total :
   abbrev n : ℕ
   n = shape .n
 
+  -- a slot whose record is left alone by a move holds what it held
   holds-kept : {m′ : Memory} {s : ℕ} {u : Record} {k : ℕ} → RecordKept m m′ s → Holds m s u k
       → Holds m′ s u k
   holds-kept {m′} {s} {u} {k} f = transport (sym same)
@@ -99,8 +100,7 @@ module _ (shape : Shape) (first : Record) (big : shape .n < 4294967296) (total :
         (tt, rw (eqb-same r, same) (newly-bound r))
     reader-own (Moves.takes-none e x) = (no-words (v .reader r l) e x, rw (eqb-same r) (not-yet 0 (omega arith)))
     reader-own (Moves.takes-size e x) = (tt, rw (eqb-same r) (copy-starts (v .reader r l) e x))
-    reader-own (Moves.copies-word e x) =
-        (tt, rw (eqb-same r) (copy-goes-on (v .reader r l) e x))
+    reader-own (Moves.copies-word e x) = (tt, rw (eqb-same r) (copy-goes-on (v .reader r l) e x))
     reader-own (Moves.copies-last e x) = (
       rw (eqb-same r) (copy-ends (v .reader r l) e x),
       rw (eqb-same r) (not-yet 0 (omega arith)),
@@ -138,10 +138,8 @@ module _ (shape : Shape) (first : Record) (big : shape .n < 4294967296) (total :
       (omega arith) (omega arith) (λ j l. absurd (omega arith)) (λ z. absurd (omega arith))
   writer-own (Moves.picks-slot e d x y) = slot-found (v .writer) high e y
   writer-own (Moves.passes-slot e d x) = slot-passed (v .writer) high e
-  writer-own (Moves.fills-word e x) =
-      rw (eqb-same (m in-hand)) (fill-goes-on (v .writer) high e x)
-  writer-own (Moves.fills-last e x) =
-      rw (eqb-same (m in-hand)) (fill-ends (v .writer) high e x)
+  writer-own (Moves.fills-word e x) = rw (eqb-same (m in-hand)) (fill-goes-on (v .writer) high e x)
+  writer-own (Moves.fills-last e x) = rw (eqb-same (m in-hand)) (fill-ends (v .writer) high e x)
   writer-own (Moves.sets-size e) =
       rw (eqb-same (m in-hand))
       (words-there (v .writer) high 4 (m writer-pos) (λ j. m (contents (m in-hand) j)) (omega arith) (omega arith)
@@ -166,8 +164,7 @@ module _ (shape : Shape) (first : Record) (big : shape .n < 4294967296) (total :
     newest-then (writes-on x) = same-current (λ e. omega (arith, x .before))
     newest-then (Noted.publishes-it x) =
         let e = x .before in
-        let same : index (m in-hand * 4294967296) ≡ m in-hand = omega arith in
-        rw (x .new, same)
+        rw (x .slot)
         (holds-kept (f .held (m in-hand) (λ lo hi. absurd (omega arith)))
         (published-whole (v .writer) high (omega arith)))
     newest-then (ends-write x) =
