@@ -14,8 +14,8 @@ use Rattle.register.specs.Numbers.{_if_, Given, read-rows, write-rows, step-row
 use Rattle.register.proofs.Rows.{Says, unless-not, unless-at-most, row, passes, holds}
 use Rattle.register.proofs.Numbers.{numbers}
 use Rattle.runfile.specs.Bytes.{words-at}
-use Rattle.runfile.specs.RunFile.{readers, capacity, values, values-at, starting-record, is-run-file, Written}
-use Rattle.runfile.specs.RunFile.{values-for, move, asked}
+use Rattle.runfile.specs.RunFile.{readers, values, values-at, starting-record, is-run-file, Written, values-for}
+use Rattle.runfile.specs.RunFile.{move, asked}
 use Rattle.runfile.specs.Conditions.{Malformed, another-kind, length-of-step, length-of-read}
 use Rattle.runfile.proofs.Conditions.{file-is, asks-nothing, asks-for}
 use Rattle.playing.specs.Play.{State, run-shape, answer-of, begun, played}

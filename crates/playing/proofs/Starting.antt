@@ -13,7 +13,7 @@ use Rattle.atomic.proofs.Made.{made-well, accepted-when}
 use Rattle.answer.specs.Carried.{whole}
 use Rattle.answer.specs.declared.Answer.{Answer as Returned}
 use Rattle.runfile.specs.Bytes.{words-at}
-use Rattle.runfile.specs.RunFile.{readers, capacity, values-at, starting-length, starting-record, is-run-file}
+use Rattle.runfile.specs.RunFile.{capacity, values-at, starting-length, starting-record, is-run-file}
 use Rattle.runfile.specs.Code.{header-of}
 use Rattle.runfile.specs.declared.types.Header.{Header}
 use Rattle.runfile.specs.Conditions.{FileFacts}
@@ -44,7 +44,7 @@ module _ (b : List ℕ) (e : is-run-file b ≡ true) where
   pub well : (a : List ℕ) → length a ≡ total (table (run-shape b))
       → made (run-shape b) (starting-record b) a .number ≡ 0
   well a exact =
-      accepted-when (run-shape b) refl (starting-record b) a in-range (exact ∙ omega arith) short
+      accepted-when (run-shape b) (starting-record b) a refl in-range (exact ∙ omega arith) short
 
   pub started : (a : List ℕ) → length a ≡ total (table (run-shape b))
       → made (run-shape b) (starting-record b) a .area ≡ first-state b .area

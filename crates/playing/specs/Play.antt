@@ -8,8 +8,7 @@ use Rattle.register.specs.Steps.{Move, write}
 use Rattle.register.specs.Calls.{Answer, refused, fresh, made, answered}
 use Rattle.runfile.specs.Bytes.{words-at}
 use Rattle.runfile.specs.RunFile.{readers, capacity, moves, values, values-at, starting-length, starting-record}
-use Rattle.runfile.specs.RunFile.{is-run-file}
-use Rattle.runfile.specs.RunFile.{Written, written, Asked, nothing, values-for, move, asked}
+use Rattle.runfile.specs.RunFile.{is-run-file, Written, written, Asked, nothing, values-for, move, asked}
 use Rattle.tally.specs.Tally.{Tally, no-tally, counted}
 
 -- ---- one move

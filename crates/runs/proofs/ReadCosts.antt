@@ -11,11 +11,9 @@ use Rattle.theory.specs.Place.{Memory, apply}
 use Rattle.register.specs.Shape.{Shape}
 use Rattle.register.specs.Area.{readers, memory, phase, pos, len, read-record}
 use Rattle.register.specs.Steps.{Move, copies}
-use Rattle.register.specs.Calls.{answered}
-use Rattle.register.specs.Calls.{after}
-use Rattle.atomic.specs.Seen.{Accepted, none, then}
+use Rattle.register.specs.Calls.{answered, after}
+use Rattle.atomic.specs.Seen.{Accepted, none, then, event, events}
 use Rattle.theory.specs.History.{Got, Deed, Event}
-use Rattle.atomic.specs.Seen.{event, events}
 use Rattle.theory.proofs.Tests.{eqb-same}
 use Rattle.theory.proofs.Places.{row-length}
 use Rattle.theory.proofs.Sums.{sum, sum-same, sum-one}
@@ -41,7 +39,7 @@ abbrev pub paid : Memory → ℕ → ℕ
 paid m r = cond (eqb (m (phase r)) 0) 0 (cond (eqb (m (phase r)) 5) (suc (m (pos r))) 1)
 
 -- a move of reader r pays for what it got
-pays-own : {n : ℕ} {m m′ : Memory} {r : ℕ} {d : Deed} → ReaderDoes shape m r d m′
+pays-own : {shape : Shape} {m m′ : Memory} {r : ℕ} {d : Deed} → ReaderDoes shape m r d m′
     → costs (got-of d) + paid m′ r ≤ paid m r + 1
 pays-own {r = r} (moves.read-starts e) = rw (eqb-same r, e) (omega arith)
 pays-own {r = r} (moves.finds-same e x) = rw (eqb-same r, e) (omega arith)
@@ -65,14 +63,14 @@ got-none (publishes-it x) = refl
 got-none (ends-write x) = refl
 
 pays : {shape : Shape} {m m′ : Memory} {e : Event} → Does shape m e m′
-    → costs (got-of (e .what)) + sum n (paid m′) ≤ sum n (paid m) + 1
-pays {n} {c} {m} {m′} (by-reader {r = r} l x) =
+    → costs (got-of (e .what)) + sum (shape .n) (paid m′) ≤ sum (shape .n) (paid m) + 1
+pays {shape} {m} {m′} (by-reader {r = r} l x) =
     let f = reader-leaves x in
-    let others = sum-one n (paid m′) (paid m) r l (λ q d. rw (f .desk 0 q 0 d, f .desk 2 q 0 d)) in
+    let others = sum-one (shape .n) (paid m′) (paid m) r l (λ q d. rw (f .desk 0 q 0 d, f .desk 2 q 0 d)) in
     omega (arith, pays-own x, others)
-pays {n} {c} {m} {m′} (by-writer x) =
+pays {shape} {m} {m′} (by-writer x) =
     let f = writer-leaves x in
-    let all = sum-same n (paid m′) (paid m) (λ q k. rw (f .desk 0 q 0, f .desk 2 q 0)) in
+    let all = sum-same (shape .n) (paid m′) (paid m) (λ q k. rw (f .desk 0 q 0, f .desk 2 q 0)) in
     omega (arith, got-none (writer-seen x), all)
 
 -- ---- a whole run

@@ -15,18 +15,15 @@ use lib.Dec.{eqb, leb, ltb, lit<}
 use lib.ListN.{length}
 use borrow.Author.Tests.{eq-eqb, ne-eqb}
 use Rattle.theory.specs.Place.{Record}
-use Rattle.register.specs.Area.{readers as area-readers, capacity as area-capacity, is-area, undamaged, memory}
-use Rattle.register.specs.Area.{phase, writer-phase, writes-ended, most-writes}
-use Rattle.register.specs.Steps.{Move, read, write, step, refuse, accept, Plan, sets-phase, begins-write, mover, plan}
-use Rattle.register.specs.Calls.{Answer, refused, carried-out, answered}
-use Rattle.register.specs.Calls.{after}
-use Rattle.atomic.specs.Seen.{Accepted, none, then, got}
-use Rattle.theory.specs.History.{Got, Deed, read-began, write-began, went-on}
-use Rattle.theory.specs.History.{looked}
-use Rattle.theory.specs.History.{published, read-ended, write-ended, Event, Read, History, noted}
-use Rattle.atomic.specs.Seen.{event, events}
-use Rattle.theory.specs.History.{all-noted}
-use Rattle.atomic.specs.Seen.{writer-deed}
+use Rattle.register.specs.Area.{readers as area-readers, shape-of, is-area, undamaged, memory, phase, writer-phase}
+use Rattle.register.specs.Area.{writes-ended, most-writes}
+use Rattle.register.specs.Steps.{Move, read, write, step, refuse, accept, Plan, sets-phase, begins-write, mover}
+use Rattle.register.specs.Steps.{plan}
+use Rattle.register.specs.Calls.{Answer, refused, carried-out, answered, after}
+use Rattle.atomic.specs.Seen.{Accepted, none, then, got, event, events, writer-deed}
+use Rattle.theory.specs.History.{Got, Deed, read-began, write-began, went-on, looked, published, read-ended}
+use Rattle.theory.specs.History.{write-ended, Event, Read, History, noted, all-noted}
+use Rattle.register.proofs.Facts.{every-call}
 use Rattle.theory.proofs.Tests.{if-true}
 use Rattle.atomic.proofs.Intact.{keeps}
 use Rattle.runfile.specs.Bytes.{words-at}
@@ -101,12 +98,14 @@ unfolding carried-out
 not-ended p a (refuse k) h = refl
 not-ended p a (accept stores ends) h = h
 
-answer-not-ended : (a : List ℕ) (x : Move) → EndsNothing (plan (area-readers a) (area-capacity a) (memory a) x)
+answer-not-ended : (a : List ℕ) (x : Move) → EndsNothing (plan (shape-of a) (memory a) x)
     → answered a x .ended ≡ false
 unfolding answered
 answer-not-ended a x h =
     if-true P (is-area a) _ (refused 1 a)
-    (λ e. if-true P (undamaged a) _ (refused 2 a) (λ d. not-ended (mover (area-readers a) x) a _ h) (λ d. refl))
+    (λ e.
+    rw (every-call (shape-of a) x)
+    (if-true P (undamaged a) _ (refused 2 a) (λ d. not-ended (mover (shape-of a) x) a _ h) (λ d. refl)))
     (λ e. refl)
   where
     P : Answer → Type 0
@@ -122,7 +121,7 @@ read-not-ended a r =
 write-not-ended : (a : List ℕ) (v : Record) → answered a (write v) .ended ≡ false
 write-not-ended a v =
     answer-not-ended a (write v)
-    (if-true EndsNothing (leb (length v) (area-capacity a)) _ (refuse 4)
+    (if-true EndsNothing (leb (length v) (shape-of a .c)) _ (refuse 4)
     (λ e.
     if-true EndsNothing (eqb (memory a writer-phase) 0) _ (refuse 5)
     (λ d.

@@ -16,11 +16,10 @@ use lib.Dec.{eqb, leb}
 use lib.ListN.{length}
 use borrow.Author.Tests.{eq-eqb, ne-eqb}
 use Rattle.theory.specs.Table.{total}
-use Rattle.register.specs.Shape.{table}
-use Rattle.register.specs.Area.{shape-of, readers as area-readers, memory, phase}
+use Rattle.register.specs.Shape.{Shape, table}
+use Rattle.register.specs.Area.{readers as area-readers, memory, phase}
 use Rattle.register.specs.Steps.{Move, write}
-use Rattle.register.specs.Calls.{Answer, refused, fresh, made, answered}
-use Rattle.register.specs.Calls.{after}
+use Rattle.register.specs.Calls.{Answer, refused, fresh, made, answered, after}
 use Rattle.atomic.specs.Seen.{Accepted, none, then, events}
 use Rattle.theory.specs.History.{nothing-yet}
 use Rattle.theory.proofs.Tests.{if-true}
@@ -29,12 +28,11 @@ use Rattle.atomic.proofs.Making.{fresh-length, fresh-readers, at-desk}
 use Rattle.atomic.proofs.Made.{fresh-memory}
 use Rattle.theory.proofs.Sums.{sum, sum-same, sum-zero}
 use Rattle.runfile.specs.Bytes.{words-at}
-use Rattle.runfile.specs.RunFile.{readers, capacity, moves, values, values-at, starting-record, is-run-file}
-use Rattle.runfile.specs.RunFile.{written, Asked, nothing, values-for, move, asked}
+use Rattle.runfile.specs.RunFile.{readers, moves, values, values-at, starting-record, is-run-file, written, Asked}
+use Rattle.runfile.specs.RunFile.{nothing, values-for, move, asked}
 use Rattle.tally.specs.Tally.{no-tally}
-use Rattle.playing.specs.Play.{State, answer-of, played, next, answers, state-after, first-state, run-state}
-use Rattle.playing.specs.Play.{run-answers, run-tally}
-use Rattle.playing.specs.Play.{call-of, accepted-call, accepted-calls}
+use Rattle.playing.specs.Play.{run-shape, State, answer-of, played, next, answers, state-after, first-state}
+use Rattle.playing.specs.Play.{run-state, run-answers, run-tally, call-of, accepted-call, accepted-calls}
 use Rattle.runs.specs.Promise.{answers-to, accepted-only, greatest-age, read-got, reads-got, PlaysARun}
 use Rattle.runs.proofs.ReadsGot.{gots, told-gots, events-joined, same-readers, move-gots}
 use Rattle.runs.proofs.ReadCosts.{costs, paid, reads-cost}
@@ -162,9 +160,8 @@ nothing-paid b e =
   where
     idle : (r : ℕ) → paid (memory (first-state b .area)) r ≡ 0
     idle r =
-        rw (ap (λ m. m (phase r)) (fresh-memory (readers b) (shape-of b .c) (starting-record b) (in-range b e)
-        (short b e))
-        ∙ at-desk (readers b) (shape-of b .c) (starting-record b) 0 r)
+        rw (ap (λ m. m (phase r)) (fresh-memory (run-shape b) (starting-record b) (in-range b e) (short b e))
+        ∙ at-desk (run-shape b) (starting-record b) 0 r)
 
 -- ---- it is a run of the demands
 
@@ -172,17 +169,14 @@ pub plays-a-run : PlaysARun
 plays-a-run b e =
     record {
       run = record {
-        form = 1;
-        n = n;
-        c = c;
+        shape = shape;
         first = v;
         slice = fresh shape v;
         moves = calls;
         made-well = well b e (fresh shape v) exact;
         accepted = subst (λ a. Accepted a calls) (sym same) (all .accepted);
       };
-      its-readers = refl;
-      its-capacity = refl;
+      its-shape = refl;
       its-record = refl;
       its-moves = refl;
       its-answers = ap (λ a. answers-to a calls) same ∙ all .answers;
@@ -203,11 +197,8 @@ plays-a-run b e =
           );
     }
   where
-    n : ℕ
-    n = readers b
-
-    c : ℕ
-    c = shape-of b .c
+    shape : Shape
+    shape = run-shape b
 
     v : List ℕ
     v = starting-record b
@@ -236,7 +227,7 @@ few-words-read b e =
     let played-run = plays-a-run b e in
     let all = whole b (moves b) 0 (first-state b) in
     let calls = accepted-calls b (moves b) 0 (first-state b) in
-    let kept = fresh-readers (readers b) (shape-of b .c) (starting-record b) (short b e) in
+    let kept = fresh-readers (run-shape b) (starting-record b) (short b e) in
     let paid-for = reads-cost (readers b) (first-state b .area) calls kept (all .accepted) in
     let same = ap costs (whole-got b (moves b) 0 (first-state b) kept) in
     omega (

@@ -11,8 +11,8 @@ use Rattle.register.specs.Calls.{Answer, answered}
 use Rattle.theory.specs.History.{Got}
 use Rattle.atomic.specs.Seen.{got}
 use Rattle.atomic.specs.Demands.{Run, beginning, now, told}
-use Rattle.runfile.specs.RunFile.{readers, capacity, moves, starting-record, is-run-file, written}
-use Rattle.playing.specs.Play.{State, played, next, first-state, run-answers, run-state, run-tally}
+use Rattle.runfile.specs.RunFile.{readers, moves, starting-record, is-run-file, written}
+use Rattle.playing.specs.Play.{run-shape, State, played, next, first-state, run-answers, run-state, run-tally}
 use Rattle.playing.specs.Play.{accepted-calls}
 
 -- the answers to calls, one after another
@@ -44,8 +44,7 @@ reads-got b (suc k) i s =
 -- word, are those that were played; whose history has the reads that were printed; and whose answers have the tally
 pub record PlayedRun (b : List ℕ) : Type 0 where
   pub run : Run
-  pub its-readers : run .n ≡ readers b
-  pub its-capacity : run .c ≡ capacity b
+  pub its-shape : run .shape ≡ run-shape b
   pub its-record : run .first ≡ starting-record b
   pub its-moves : run .moves ≡ accepted-calls b (moves b) 0 (first-state b)
   pub its-answers : answers-to (beginning run) (run .moves) ≡ accepted-only (run-answers b)
