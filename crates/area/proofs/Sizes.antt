@@ -24,7 +24,11 @@ pub laid-of : {p : Layout} {k : Shape} → k .n ≤ 64 → k .c ≤ 256 → p �
 laid-of h l e =
     let readers = ap (λ q. q .n) e in
     let words = ap (λ q. q .c) e in
-    record { few-readers = rw readers h; few-words = rw words l; exact = e ∙ sym (ap (λ q. layout-of (its-shape q)) e) }
+    record {
+      few-readers = rw readers h;
+      few-words = rw words l;
+      exact = e ∙ sym (ap (λ q. layout-of (its-shape q)) e);
+    }
 
 -- the sum for word f of row r, where the rows of part g begin at start and are so wide: it is the word's place, within
 -- the area

@@ -10,9 +10,9 @@ pub mod header;
 pub mod records;
 pub mod stores;
 
-// The shape of an area, for n readers and records of at most c words, and all that depends on it: the limit of r_start,
-// r_end and the counters; where its parts begin; the words of a reader's desk, and where its record's words begin in it;
-// the words of all.
+// The shape of an area, for n readers and records of at most c words, and all that depends on it: the limit of
+// r_start, r_end and the counters; where its parts begin; the words of a reader's desk, and where the words of its
+// record begin in it; the words of all.
 pub struct Layout {
     pub form: u64,
     pub n: usize,

@@ -126,7 +126,8 @@ module _ {a : List ℕ} {x : Move} (o : Opened a x) where
   facts = area-facts a (o .area)
 
   -- the plan's stores, and the move that they are
-  pub does : Does shape (memory a) (by (mover shape x) (seen (readers a) (memory a) x (o .ends) (apply (memory a) (o .stores))))
+  pub does : Does shape (memory a)
+      (by (mover shape x) (seen (readers a) (memory a) x (o .ends) (apply (memory a) (o .stores))))
       (apply (memory a) (o .stores))
       × AllInBody shape (o .stores)
   does =

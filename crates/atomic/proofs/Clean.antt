@@ -78,7 +78,8 @@ module _ (shape : Shape) (big : shape .n < 4294967296) {m : Memory} (i : Counted
   stays-clean (by-writer x) = writer-clean (writer-leaves x) (writer-seen x)
 
 -- clean counts on an undamaged memory are all that is needed above them
-pub guards : {shape : Shape} {m : Memory} → Counted shape m → Clean (shape .n) m → Whole shape m → Guarded shape m
+pub guards : {shape : Shape} {m : Memory} → Counted shape m → Clean (shape .n) m → Whole shape m
+    → Guarded shape m
 guards {shape} {m} i v whole =
     record {
       hand-apart = hand-apart shape m i;

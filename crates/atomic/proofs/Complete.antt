@@ -185,7 +185,9 @@ module _ (n all-moves : ℕ) where
         → Recalls (trail past a l) (all-noted all-moves h (events a l))
     all-recalled a [] past h none e g v = v
     all-recalled a (x ∷ l) past h (then z rest) e g v =
-        let told-now = recalled v a (ap (λ j. j .n) (g .its-shape) ∙ same) (omega arith) (g .dated .ends) (tells a x (opened a x z)) in
+        let told-now =
+        recalled v a (ap (λ j. j .n) (g .its-shape) ∙ same) (omega arith) (g .dated .ends)
+        (tells a x (opened a x z)) in
         all-recalled (answered a x .area) l (record { area = a; move = x } ∷ past)
         (noted all-moves h (event a x .who) (event a x .what)) rest
         (omega (arith, told-now .moves, v .moves))

@@ -112,7 +112,8 @@ pub record ReadEnded (m m′ : Memory) (r : ℕ) (g : Got) : Type 0 where
 abbrev pub ReaderSeen : Memory → Memory → ℕ → Deed → Type 0
 ReaderSeen m m′ r = OfReader (m′ (phase r) ≢ 0) (ReadEnded m m′ r)
 
-pub reader-seen : {shape : Shape} {m m′ : Memory} {r : ℕ} {d : Deed} → ReaderDoes shape m r d m′ → ReaderSeen m m′ r d
+pub reader-seen : {shape : Shape} {m m′ : Memory} {r : ℕ} {d : Deed} → ReaderDoes shape m r d m′
+    → ReaderSeen m m′ r d
 reader-seen {r = r} (Moves.read-starts e) = begins-read (rw (eqb-same r) (λ z. omega arith))
 reader-seen {r = r} (Moves.finds-same e x) = goes-on (rw (eqb-same r) (λ z. omega arith))
 reader-seen {r = r} (Moves.finds-other e x) = goes-on (rw (eqb-same r) (λ z. omega arith))

@@ -33,7 +33,8 @@ module _ (shape : Shape) (m : Memory) where
       go false b = refl
 
   pub write-begin-number : (v : Record) → number-of (write-begins shape m v)
-      ≡ cond (leb (length v) (shape .c)) (cond (eqb (m writer-phase) 0) (cond (ltb (m writes-ended) most-writes) 0 7) 5) 4
+      ≡ cond (leb (length v) (shape .c))
+      (cond (eqb (m writer-phase) 0) (cond (ltb (m writes-ended) most-writes) 0 7) 5) 4
   write-begin-number v = go (leb (length v) (shape .c)) (eqb (m writer-phase) 0) (ltb (m writes-ended) most-writes)
     where
       go : (a b d : Bool)

@@ -136,7 +136,8 @@ module _ (shape : Shape) (v : Record) where
         )
         (passed _
         (all-pass
-        (leb 8 T ∷ known-form (shape .form) ∷ all (range-tests shape) ∷ eqb T T ∷ eqb (desks-at shape) (desks-at shape)
+        (leb 8 T ∷ known-form (shape .form) ∷ all (range-tests shape) ∷ eqb T T
+        ∷ eqb (desks-at shape) (desks-at shape)
         ∷ eqb (writer-at shape) (writer-at shape) ∷ eqb T T ∷ [])
         (also (le→leb 8 T (omega arith))
         (also (tests .0)

@@ -82,7 +82,8 @@ pub data WriterDoes (shape : Shape) (m : Memory) : Deed → Memory → Type 0 wh
       → m writer-len ≢ 0
       → WriterDoes shape m looked (apply m (to-phase 2))
   passes-slot : m writer-phase ≡ 1
-      → (m in-hand ≢ m last-slot → m (r-start (m in-hand)) ≢ m (r-end (m in-hand))) → m in-hand ≢ suc (shape .n)
+      → (m in-hand ≢ m last-slot → m (r-start (m in-hand)) ≢ m (r-end (m in-hand)))
+      → m in-hand ≢ suc (shape .n)
       → WriterDoes shape m looked (apply m (passes m))
   fills-word : m writer-phase ≡ 2 → suc (m writer-pos) ≢ m writer-len
       → WriterDoes shape m (went-on 2) (apply m (fills-to m 2))
@@ -96,5 +97,6 @@ pub data WriterDoes (shape : Shape) (m : Memory) : Deed → Memory → Type 0 wh
 
 -- an accepted move is a reader's or the writer's
 pub data Does (shape : Shape) (m : Memory) : Event → Memory → Type 0 where
-  by-reader : {r : ℕ} {d : Deed} {m′ : Memory} → r < shape .n → ReaderDoes shape m r d m′ → Does shape m (by r d) m′
+  by-reader : {r : ℕ} {d : Deed} {m′ : Memory} → r < shape .n → ReaderDoes shape m r d m′
+      → Does shape m (by r d) m′
   by-writer : {d : Deed} {m′ : Memory} → WriterDoes shape m d m′ → Does shape m (by (shape .n) d) m′

@@ -62,7 +62,8 @@ writer-says n p (writes-on x) = tt
 writer-says n p (publishes-it x) = refl
 writer-says n p (ends-write x) = x .before
 
-pub says : {shape : Shape} {m m′ : Memory} {e : Event} → Does shape m e m′ → Says (shape .n) (e .who) (e .what) m m′
+pub says : {shape : Shape} {m m′ : Memory} {e : Event} → Does shape m e m′
+    → Says (shape .n) (e .who) (e .what) m m′
 says (by-reader l x) =
     let f = reader-leaves x in
     reader-says l (rw (f .writer 6 0, f .writer 0 0)) (reader-seen x)
@@ -124,7 +125,8 @@ module _ (a : List ℕ) (p : ℕ) (o : Opened a (step p)) where
     shows-record : shown b p [] ≡ desk-record m′ p
     unfolding shown
     shows-record =
-        ap (λ t. cond t (words-from b (address (table (shape-of b)) (read-record p 0)) (memory b (len p))) []) own-record
+        ap (λ t. cond t (words-from b (address (table (shape-of b)) (read-record p 0)) (memory b (len p))) [])
+        own-record
         ∙ shows-desk b p (after-exact o) still few
         ∙ ap (λ m. desk-record m p) (after-memory o)
       where

@@ -158,7 +158,8 @@ module _ (shape : Shape) (m : Memory) where
           → R (cond (eqb (suc (m (pos r))) (m (len r))) (accept (Steps.copies m r ++ Steps.finishes r) true)
           (accept (Steps.copies m r) false))
       copies e =
-          let word = body-read-record shape r (m (pos r)) l (omega (arith, v .desk r l .copying e, v .desk r l .words)) in
+          let word =
+          body-read-record shape r (m (pos r)) l (omega (arith, v .desk r l .copying e, v .desk r l .words)) in
           if-equal R (suc (m (pos r))) (m (len r)) (accept (Steps.copies m r ++ Steps.finishes r) true)
           (accept (Steps.copies m r) false)
           (λ x. (
@@ -187,7 +188,8 @@ module _ (shape : Shape) (m : Memory) where
 
     -- a step out of phase k
     out-of : {m′ : Memory} (ends : Bool) (k : ℕ) → m writer-phase ≡ k
-        → WriterDoes shape m (seen-writer k ends) m′ → Does shape m (by n (seen-writer (m writer-phase) ends)) m′
+        → WriterDoes shape m (seen-writer k ends) m′
+        → Does shape m (by n (seen-writer (m writer-phase) ends)) m′
     out-of ends k e x = renamed (ap (λ j. seen-writer j ends) (sym e)) (by-writer x)
 
     looking : m writer-phase ≡ 1

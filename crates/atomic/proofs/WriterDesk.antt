@@ -11,7 +11,8 @@ module _ {shape : Shape} {phase last hand pos len old ended : ℕ}
     (v : WriterWhole shape phase last hand pos len old ended) where
   -- it goes on, from its slot to its end
   pub further : (k pos′ old′ : ℕ) → phase ≢ 0 → 2 ≤ k → k ≤ 7 → pos′ ≤ len
-      → (k ≡ 2 → pos′ < len) → WordWhole shape old′ → WriterWhole shape k last hand pos′ len old′ ended
+      → (k ≡ 2 → pos′ < len) → WordWhole shape old′
+      → WriterWhole shape k last hand pos′ len old′ ended
   further k pos′ old′ busy lo hi part copying before =
       record {
         phases = hi;

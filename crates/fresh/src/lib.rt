@@ -64,7 +64,8 @@ fn set_offsets(area: &mut [u64], p: Layout)
 // The starting record and its size go into slot 0.
 fn set_starting(area: &mut [u64], p: Layout, record: &[u64])
     requires { ⌜ Sized p (now area) × (length (now «record») ≤ p .c) ⌝ }
-    ensures { λ _. ⌜ now (area .exit) ≡ words-after p (now (area .entry)) (starting (now («record» .entry))) ⌝ }
+    ensures { λ _. ⌜ now (area .exit)
+        ≡ words-after p (now (area .entry)) (starting (now («record» .entry))) ⌝ }
 {
     stores::set_slot_field(area, p, 0, Layout::SIZE, record.len() as u64);
     let mut i = 0;

@@ -35,7 +35,8 @@ shows a r default =
     place = omega arith
 
     go : (t : Bool) → is-own a r ≡ t → (¬ OwnToShow a r)
-        → cond t (words-from a (address (table (shape-of a)) (read-record r 0)) (memory a (len r))) default ≡ default
+        → cond t (words-from a (address (table (shape-of a)) (read-record r 0)) (memory a (len r))) default
+        ≡ default
     go true e d = absurd (d (own-is a r .0 e))
     go false e d = refl
 
@@ -44,7 +45,8 @@ carried : (p : ℕ) (a : List ℕ) (y : Plan) → carried-out p a y .ended && lt
     → carried-out p a y .age ≡ 0
 unfolding carried-out
 carried p a (refuse k) e = refl
-carried p a (accept stores ends) e = ap (λ t. cond t (age-of (view (table (shape-of a)) (store (table (shape-of a)) a stores)) p) 0) e
+carried p a (accept stores ends) e =
+    ap (λ t. cond t (age-of (view (table (shape-of a)) (store (table (shape-of a)) a stores)) p) 0) e
 
 age-elsewhere : (a : List ℕ) (x : Move) → answered a x .ended && ltb (mover (shape-of a) x) (word a 1) ≡ false
     → answered a x .age ≡ 0

@@ -242,7 +242,8 @@ module _ (a : List ℕ) (p k : ℕ) where
       tested a (step p) λ e f.
       let w = undamaged-is a .0 f in
       if-less Meets p n (reader-step (shape-of a) m p) _ (λ l. reader-number l w)
-      (λ l. if-equal Meets p n (writer-step (shape-of a) m) (refuse 3) (λ i. writer-number i w) (λ d. holds (omega arith)))
+      (λ l. if-equal Meets p n (writer-step (shape-of a) m) (refuse 3) (λ i. writer-number i w)
+      (λ d. holds (omega arith)))
 
 -- ---- the theorem
 

@@ -177,7 +177,8 @@ module _ (k : Shape) where
   -- in the order of addresses
   abbrev pub memory-tests : Memory → List Bool
   memory-tests m =
-      word-sound (m current) ∷ every (k .n + 2) 0 (slot-sound m) ∷ every (k .n) 0 (desk-sound m) ∷ writer-sound m ∷ []
+      word-sound (m current) ∷ every (k .n + 2) 0 (slot-sound m) ∷ every (k .n) 0 (desk-sound m) ∷ writer-sound m
+      ∷ []
 
 abbrev pub memory : List ℕ → Memory
 memory a = view (table (shape-of a)) a

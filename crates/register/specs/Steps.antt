@@ -124,14 +124,18 @@ freezes m =
 module _ (k : Shape) (m : Memory) where
   -- a begin of reader r
   abbrev pub read-begins : ℕ → Plan
-  read-begins r = unless refuse (ltb r (k .n) else 3 ∷ eqb (m (phase r)) 0 else 5 ∷ []) (accept (sets-phase r 1) false)
+  read-begins r =
+      unless refuse (ltb r (k .n) else 3 ∷ eqb (m (phase r)) 0 else 5 ∷ []) (accept (sets-phase r 1) false)
 
-  -- a begin of the writer with a record. A word holds no more than 2^64 − 1, so that writes ended "is" 2^64 − 1 where
-  -- it is not below it
+  -- a begin of the writer with a record. A word holds no more than 2^64 − 1, so that writes ended "is" 2^64 − 1
+  -- where it is not below it
   abbrev pub write-begins : Record → Plan
   write-begins v =
       unless refuse
-      (leb (length v) (k .c) else 4 ∷ eqb (m writer-phase) 0 else 5 ∷ ltb (m writes-ended) most-writes else 7 ∷ [])
+      (leb (length v) (k .c) else 4
+      ∷ eqb (m writer-phase) 0 else 5
+      ∷ ltb (m writes-ended) most-writes else 7
+      ∷ [])
       (accept (begins-write v) false)
 
   -- reader r in phase 1 to 5

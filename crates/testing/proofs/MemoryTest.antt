@@ -15,8 +15,8 @@ use Rattle.area.proofs.Joined.{three, six, nine}
 module _ (k : Shape) (m : Memory) where
   -- ---- the parts, by the numbers read
 
-  pub slot-by : (s : ℕ) {x y z most : ℕ} → most ≡ limit k → x ≡ m (r-start s) → y ≡ m (r-end s) → z ≡ m (size s)
-      → leb x most && leb y most && leb z (k .c) ≡ slot-sound k m s
+  pub slot-by : (s : ℕ) {x y z most : ℕ} → most ≡ limit k → x ≡ m (r-start s) → y ≡ m (r-end s)
+      → z ≡ m (size s) → leb x most && leb y most && leb z (k .c) ≡ slot-sound k m s
   unfolding slot-sound
   slot-by s l e f g = rw (l, e, f, g, three)
 

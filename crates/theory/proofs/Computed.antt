@@ -27,7 +27,8 @@ got-1 = record { age = 0; number = 1; own = true; shows = 5 ∷ [] }
 abbrev events : List Event
 events =
     by 0 read-began ∷ by 2 (write-began (5 ∷ [])) ∷ by 2 looked ∷ by 2 (went-on 2) ∷ by 2 (published false)
-    ∷ by 1 read-began ∷ by 0 (went-on 1) ∷ by 0 (read-ended got-0) ∷ by 2 write-ended ∷ by 1 (read-ended got-1)
+    ∷ by 1 read-began ∷ by 0 (went-on 1) ∷ by 0 (read-ended got-0) ∷ by 2 write-ended
+    ∷ by 1 (read-ended got-1)
     ∷ by 2 (write-began (6 ∷ [])) ∷ by 2 looked ∷ by 2 looked ∷ by 2 (published true)
     ∷ by 2 (write-began (7 ∷ [])) ∷ by 2 (published false) ∷ []
 
@@ -70,7 +71,8 @@ at part row field column = record { part = part; field = field; row = row; colum
 -- in the order of addresses; then places that the area lacks: a word of the field of none, a column, a field, a row
 -- and a part too many
 addresses : (total small ≡ 7)
-    × (map (address small) (at 0 0 0 0 ∷ at 1 0 0 0 ∷ at 1 0 2 0 ∷ at 1 0 2 1 ∷ at 1 1 0 0 ∷ at 1 1 2 1 ∷ [])
+    × (map (address small)
+    (at 0 0 0 0 ∷ at 1 0 0 0 ∷ at 1 0 2 0 ∷ at 1 0 2 1 ∷ at 1 1 0 0 ∷ at 1 1 2 1 ∷ [])
     ≡ 0 ∷ 1 ∷ 2 ∷ 3 ∷ 4 ∷ 6 ∷ [])
     × (map (has small)
     (at 1 1 2 1 ∷ at 1 0 1 0 ∷ at 1 0 2 2 ∷ at 1 0 3 0 ∷ at 1 2 0 0 ∷ at 2 0 0 0 ∷ [])

@@ -59,7 +59,8 @@ fields-grow : (i : ℕ) (l : List ℕ) (f h : ℕ) → f ≤ h → field-at i l 
 fields-grow i l f zero k = let e : f ≡ 0 = omega arith in rw e (omega arith)
 fields-grow i l f (suc h) k = go (fields-grow i l f h) (ℕ-discrete f (suc h))
   where
-    go : (f ≤ h → field-at i l f ≤ field-at i l h) → Dec (f ≡ suc h) → field-at i l f ≤ field-at i l (suc h)
+    go : (f ≤ h → field-at i l f ≤ field-at i l h) → Dec (f ≡ suc h)
+        → field-at i l f ≤ field-at i l (suc h)
     go rest (yes e) = rw e (omega arith)
     go rest (no d) = omega (arith, rest (omega arith), next-field i l h)
 
@@ -80,10 +81,12 @@ single-word (suc j) zero l h = refl
 single-word (suc j) (suc f) l h = single-word j f l (omega arith)
 
 module _ (t : Table) where
-  pub single-words : (g j : ℕ) (l : List ℕ) → t .fields g ≡ singles j l → (f : ℕ) → f < j → words t g f ≡ 1
+  pub single-words : (g j : ℕ) (l : List ℕ) → t .fields g ≡ singles j l → (f : ℕ) → f < j
+      → words t g f ≡ 1
   single-words g j l e f h = ap (λ k. getD k f 0) e ∙ single-word j f l h
 
-  pub single-offset : (g j : ℕ) (l : List ℕ) → t .fields g ≡ singles j l → (f : ℕ) → f ≤ j → offset t g f ≡ f
+  pub single-offset : (g j : ℕ) (l : List ℕ) → t .fields g ≡ singles j l → (f : ℕ) → f ≤ j
+      → offset t g f ≡ f
   single-offset g j l e f h = omega (arith, ap (λ k. field-at 0 k f) e, single-at 0 j l f h)
 
   -- ---- fields of a row

@@ -36,7 +36,8 @@ pub in-phase : (p : Layout) (a : List ℕ) (k : ℕ) {phase : ℕ} {r : Answer}
     → r ≡ carried p (p .n) a (writer-step (its-shape p) (memory-of p a))
 unfolding writer-step
 in-phase p a k phase-is here done =
-    done ∙ ap (λ j. carried p (p .n) a (at-phase j (writer-plans (its-shape p) (memory-of p a)))) (sym here ∙ phase-is)
+    done ∙ ap (λ j. carried p (p .n) a (at-phase j (writer-plans (its-shape p) (memory-of p a))))
+    (sym here ∙ phase-is)
 
 -- no phase is past 7
 past-three : (k : ℕ) → k ≢ 0 → k ≢ 1 → k ≢ 2 → k ≢ 3 → 4 ≤ k

@@ -72,7 +72,8 @@ returns-2 c =
     let start = word .before .before .before in
     let m = memory-of (start .args .p) (start .args .area .now) in
     bound (start .args .p) (start .args .r) (start .args .area .now) m (start .pre .0 .sized .laid)
-    (word .current-word .ensures) (count .counter .ensures) (room .if1 .left) (index .index .ensures) (first .set-current .ensures)
+    (word .current-word .ensures) (count .counter .ensures) (room .if1 .left)
+    (index .index .ensures) (first .set-current .ensures)
     (second .set-desk-field .ensures) (third .set-desk-field2 .ensures) (c .accepted .ensures)
 
 pub binds-spec : {M : Type 1} → statement M

@@ -61,7 +61,8 @@ returns-2 c =
     let start = slot .before .before .before in
     let m = memory-of (start .args .p) (start .args .area .now) in
     unbound (start .args .p) (start .args .r) (start .args .area .now) m (start .pre .0 .sized .laid)
-    (slot .desk-field .ensures) (gone .slot-field .ensures) (room .if1 .left) (first .set-slot-field .ensures) (second .set-desk-field .ensures)
+    (slot .desk-field .ensures) (gone .slot-field .ensures) (room .if1 .left)
+    (first .set-slot-field .ensures) (second .set-desk-field .ensures)
     (c .accepted .ensures)
 
 pub unbinds-spec : {M : Type 1} → statement M

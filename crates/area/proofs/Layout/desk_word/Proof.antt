@@ -5,7 +5,8 @@ use Rattle.area.proofs.Sizes.{Stands, desk-stands}
 use Rattle.area.proofs.Layout.desk_word.Statement.{statement}
 use Rattle.area.proofs.Layout.desk_word.Tie as tie
 
-stands : (c : tie.Start) → Stands (c .args .self) 2 (c .args .self .desks) (c .args .self .desk) (c .args .r) (c .args .f)
+stands : (c : tie.Start)
+    → Stands (c .args .self) 2 (c .args .self .desks) (c .args .self .desk) (c .args .r) (c .args .f)
 stands c = desk-stands (c .pre .0) (c .args .r) (c .args .f) (c .pre .1) (c .pre .2)
 
 mul-result : tie.Need-mul-result

@@ -6,7 +6,8 @@ use Rattle.area.proofs.Sizes.{Stands, slot-stands}
 use Rattle.area.proofs.Layout.slot_word.Statement.{statement}
 use Rattle.area.proofs.Layout.slot_word.Tie as tie
 
-stands : (c : tie.Start) → Stands (c .args .self) 1 (c .args .self .slots) (4 + c .args .self .c) (c .args .s) (c .args .f)
+stands : (c : tie.Start)
+    → Stands (c .args .self) 1 (c .args .self .slots) (4 + c .args .self .c) (c .args .s) (c .args .f)
 stands c = slot-stands (c .pre .0) (c .args .s) (c .args .f) (c .pre .1) (c .pre .2)
 
 add-result : tie.Need-add-result

@@ -31,7 +31,8 @@ returns : tie.Need-returns
 returns c =
     let b = c .before .before .before .args in
     read-record-set (its-shape (b .p)) (b .area .now) (b .v) (b .r) (b .j)
-    (c .desk-word .ensures .0 ∙ ap (λ i. desk-word (its-shape (b .p)) (b .r) (i + b .j)) (there (c .before .before .before) .starts))
+    (c .desk-word .ensures .0
+    ∙ ap (λ i. desk-word (its-shape (b .p)) (b .r) (i + b .j)) (there (c .before .before .before) .starts))
 
 pub set-read-record-spec : {M : Type 1} → statement M
 set-read-record-spec =
