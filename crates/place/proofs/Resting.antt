@@ -5,14 +5,13 @@ use mathlib.Core.Logic.{_≢_}
 use mathlib.Core.Bool.{Bool, true, false, _&&_, and-true}
 use mathlib.Core.List.{List}
 use Prim.Native.Nat.{ℕ, _≤_, _<_}
-use lib.Dec.{T, eqb, ltb→lt}
+use lib.Dec.{eqb, ltb→lt}
 use Rattle.theory.specs.Place.{Memory}
 use Rattle.register.specs.Area.{phase, finished, readers, is-area, undamaged, shape-of}
 use Rattle.theory.specs.Lists.{all}
 use Rattle.register.specs.Calls.{own-tests, is-own}
-use Rattle.theory.specs.Lists.{Each, also}
 use Rattle.register.specs.Conditions.{Whole}
-use Rattle.theory.proofs.Tests.{passed, true-passes, each-passes}
+use Rattle.theory.proofs.Tests.{passed, true-passes, test-passes}
 use Rattle.register.proofs.Facts.{area-facts, whole-area}
 use Rattle.area.specs.declared.Layout.{Layout}
 use Rattle.area.specs.Words.{layout-of, Sized, memory-of, its-shape}
@@ -59,21 +58,15 @@ pub record Own (p : Layout) (a : List ℕ) (r : ℕ) : Type 0 where
   pub exists : r < p .n
 
 module _ (a : List ℕ) (r : ℕ) (o : is-own a r ≡ true) where
-  -- every test passes
-  own-parts : Each T (own-tests a r)
-  unfolding is-own
-  own-parts = each-passes (own-tests a r) (true-passes _ o)
-
-  -- what they say, by the area's layout
+  -- what its tests say, by the area's layout
   pub own-facts : {p : Layout} → p ≡ layout-of (shape-of a) → Own p a r
-  own-facts {p} l = go own-parts
-    where
-      go : Each T (own-tests a r) → Own p a r
-      go (also t (also u (also e rest))) =
-          rw l
-          (record {
-            sized = sized a _ refl (passed _ t);
-            sound = whole-area a (passed _ u);
-            words = area-facts a (passed _ t) .range .some-words;
-            exists = ltb→lt r (readers a) e;
-          })
+  unfolding is-own
+  own-facts {p} l =
+      let test = test-passes (own-tests a r) (true-passes _ o) in
+      rw l
+      (record {
+        sized = sized a _ refl (passed _ (test 0));
+        sound = whole-area a (passed _ (test 1));
+        words = area-facts a (passed _ (test 0)) .range .some-words;
+        exists = ltb→lt r (readers a) (test 2);
+      })

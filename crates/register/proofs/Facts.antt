@@ -10,7 +10,7 @@ use mathlib.Core.List.{List}
 use Prim.Native.Nat.{ℕ}
 use native.Mathlib.Omega.{arith}
 use lib.Dec.{T, eqb, eqb→eq, leb→le, le→leb, ltb→lt, lt→ltb}
-use lib.ListN.{length}
+use lib.ListN.{length, getD}
 use borrow.Author.Tests.{eq-eqb, eqb-true}
 use Rattle.theory.specs.Table.{total}
 use Rattle.register.specs.Shape.{Shape, known-form, slots-at, desks-at, writer-at, range-tests, in-range}
@@ -20,7 +20,7 @@ use Rattle.theory.specs.Lists.{all, Each, none, also}
 use Rattle.register.specs.Conditions.{KnownForm, InRange, word, AnArea, Undamaged, Whole}
 use Rattle.register.specs.Calls.{own-tests, is-own}
 use Rattle.register.specs.Numbers.{writer, OwnToShow}
-use Rattle.theory.proofs.Tests.{passed, true-passes, each-passes, all-pass}
+use Rattle.theory.proofs.Tests.{passed, true-passes, test-passes, all-pass}
 use Rattle.register.specs.Steps.{Plan, refuse, accept, Move, read, write, step, plan, has-call}
 use Rattle.register.proofs.Whole.{whole-of, of-whole}
 
@@ -30,16 +30,14 @@ pub known-is : (form : ℕ) → (known-form form ≡ true) ↔ KnownForm form
 known-is form = (eqb-true form 1, eq-eqb form 1)
 
 pub range-facts : (k : Shape) → T (in-range k) → InRange k
-range-facts k t = go (each-passes (range-tests k) t)
-  where
-    go : Each T (range-tests k) → InRange k
-    go (also a (also b (also d (also e none)))) =
-        record {
-          some-readers = leb→le _ _ a;
-          few-readers = leb→le _ _ b;
-          some-words = leb→le _ _ d;
-          few-words = leb→le _ _ e;
-        }
+range-facts k t =
+    let test = test-passes (range-tests k) t in
+    record {
+      some-readers = leb→le _ _ (test 0);
+      few-readers = leb→le _ _ (test 1);
+      some-words = leb→le _ _ (test 2);
+      few-words = leb→le _ _ (test 3);
+    }
 
 pub whole-area : (a : List ℕ) → undamaged a ≡ true → Whole (shape-of a) (memory a)
 unfolding undamaged
@@ -82,19 +80,19 @@ range-is k = (λ e. range-facts k (true-passes _ e), back)
 pub area-is : (a : List ℕ) → (is-area a ≡ true) ↔ AnArea a
 unfolding is-area
 area-is a =
-    (λ e. there (each-passes (area-tests a) (true-passes _ e)), λ v. passed _ (all-pass (area-tests a) (back v)))
+    (λ e. there (test-passes (area-tests a) (true-passes _ e)), λ v. passed _ (all-pass (area-tests a) (back v)))
   where
-    there : Each T (area-tests a) → AnArea a
-    there (also x (also f (also r (also t (also s (also d (also w (also l none)))))))) =
-        let total-is : word a 3 ≡ total (table (shape-of a)) = eqb→eq _ _ t in
-        let slots-are : word a 4 ≡ slots-at (shape-of a) = eqb→eq _ _ s in
-        let desks-are : word a 5 ≡ desks-at (shape-of a) = eqb→eq _ _ d in
-        let writer-is : word a 6 ≡ writer-at (shape-of a) = eqb→eq _ _ w in
-        let length-is : length a ≡ total (table (shape-of a)) = eqb→eq _ _ l in
+    there : ((i : ℕ) → T (getD (area-tests a) i true)) → AnArea a
+    there test =
+        let total-is : word a 3 ≡ total (table (shape-of a)) = eqb→eq _ _ (test 3) in
+        let slots-are : word a 4 ≡ slots-at (shape-of a) = eqb→eq _ _ (test 4) in
+        let desks-are : word a 5 ≡ desks-at (shape-of a) = eqb→eq _ _ (test 5) in
+        let writer-is : word a 6 ≡ writer-at (shape-of a) = eqb→eq _ _ (test 6) in
+        let length-is : length a ≡ total (table (shape-of a)) = eqb→eq _ _ (test 7) in
         record {
-          eight = leb→le _ _ x;
-          form = known-is (word a 0) .0 (passed _ f);
-          range = range-facts (shape-of a) r;
+          eight = leb→le _ _ (test 0);
+          form = known-is (word a 0) .0 (passed _ (test 1));
+          range = range-facts (shape-of a) (test 2);
           total = omega (arith, total-is);
           slots = omega (arith, slots-are);
           desks = omega (arith, desks-are);
@@ -134,16 +132,16 @@ undamaged-is a = (whole-area a, sound-area a (shape-of a) refl)
 pub own-is : (a : List ℕ) (r : ℕ) → (is-own a r ≡ true) ↔ OwnToShow a r
 unfolding is-own
 own-is a r =
-    (λ e. there (each-passes (own-tests a r) (true-passes _ e)), λ v. passed _ (all-pass (own-tests a r) (back v)))
+    (λ e. there (test-passes (own-tests a r) (true-passes _ e)), λ v. passed _ (all-pass (own-tests a r) (back v)))
   where
-    there : Each T (own-tests a r) → OwnToShow a r
-    there (also x (also u (also l (also z (also f none))))) =
+    there : ((i : ℕ) → T (getD (own-tests a r) i true)) → OwnToShow a r
+    there test =
         record {
-          area = area-is a .0 (passed _ x);
-          undamaged = undamaged-is a .0 (passed _ u);
-          exists = ltb→lt _ _ l;
-          idle = eqb→eq _ _ z;
-          has-finished = eqb→eq _ _ f;
+          area = area-is a .0 (passed _ (test 0));
+          undamaged = undamaged-is a .0 (passed _ (test 1));
+          exists = ltb→lt _ _ (test 2);
+          idle = eqb→eq _ _ (test 3);
+          has-finished = eqb→eq _ _ (test 4);
         }
 
     back : OwnToShow a r → Each T (own-tests a r)

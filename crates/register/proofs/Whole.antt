@@ -14,9 +14,9 @@ use Rattle.register.specs.Area.{current, index, counter, phase, writer-p
 use Rattle.register.specs.Area.{word-sound, slot-sound, desk-sound, writer-sound, slot-tests, desk-tests}
 use Rattle.register.specs.Area.{writer-tests, memory-tests}
 use Rattle.register.specs.Shape.{Shape, limit}
-use Rattle.theory.specs.Lists.{all, Each, none, also}
+use Rattle.theory.specs.Lists.{all, none, also}
 use Rattle.register.specs.Conditions.{WordWhole, Slot, Desk, Writer, Whole}
-use Rattle.theory.proofs.Tests.{both, joined, each-passes, all-pass, where-passed, unless-passed, where-failed}
+use Rattle.theory.proofs.Tests.{both, joined, test-passes, all-pass, where-passed, unless-passed, where-failed}
 use Rattle.theory.proofs.Tests.{unless-failed, each-of, of-each, true-passes}
 
 -- ---- from the test
@@ -25,51 +25,48 @@ pub word-of : (k : Shape) (w : ℕ) → T (word-sound k w) → WordWhole k w
 word-of k w t =
     let (a, b) = both (ltb (index w) (k .n + 2)) _ t in record { slot = ltb→lt _ _ a; count = leb→le _ _ b }
 
-slot-facts : (k : Shape) (m : Memory) (s : ℕ) → Each T (slot-tests k m s) → Slot k m s
-slot-facts k m s (also a (also b (also d none))) =
-    record { start = leb→le _ _ a; end = leb→le _ _ b; words = leb→le _ _ d }
+slot-facts : (k : Shape) (m : Memory) (s : ℕ) → T (all (slot-tests k m s)) → Slot k m s
+slot-facts k m s t =
+    let test = test-passes (slot-tests k m s) t in
+    record { start = leb→le _ _ (test 0); end = leb→le _ _ (test 1); words = leb→le _ _ (test 2) }
 
-desk-facts : (k : Shape) (m : Memory) (r : ℕ) → Each T (desk-tests k m r) → Desk k m r
-desk-facts k m r (also a (also b (also d (also e (also f (also g none)))))) =
+desk-facts : (k : Shape) (m : Memory) (r : ℕ) → T (all (desk-tests k m r)) → Desk k m r
+desk-facts k m r t =
+    let test = test-passes (desk-tests k m r) t in
     record {
-      phases = leb→le _ _ a;
-      slot = ltb→lt _ _ b;
-      part = leb→le _ _ d;
-      words = leb→le _ _ e;
-      flag = leb→le _ _ f;
-      copying = λ y. ltb→lt _ _ (where-passed _ _ g (eq-eqb _ _ y));
+      phases = leb→le _ _ (test 0);
+      slot = ltb→lt _ _ (test 1);
+      part = leb→le _ _ (test 2);
+      words = leb→le _ _ (test 3);
+      flag = leb→le _ _ (test 4);
+      copying = λ y. ltb→lt _ _ (where-passed _ _ (test 5) (eq-eqb _ _ y));
     }
 
-writer-facts : (k : Shape) (m : Memory) → Each T (writer-tests k m) → Writer k m
-writer-facts k m (also a (also b (also d (also e (also f (also g (also h (also i (also j none))))))))) =
+writer-facts : (k : Shape) (m : Memory) → T (all (writer-tests k m)) → Writer k m
+writer-facts k m t =
+    let test = test-passes (writer-tests k m) t in
     record {
-      phases = leb→le _ _ a;
-      last-one = ltb→lt _ _ b;
-      hand-one = ltb→lt _ _ d;
-      part = leb→le _ _ e;
-      words = leb→le _ _ f;
-      before = word-of k (m old-word) g;
-      copying = λ y. ltb→lt _ _ (where-passed _ _ h (eq-eqb _ _ y));
-      unmoved = λ y. eqb→eq _ _ (where-passed _ _ i (eq-eqb _ _ y));
-      room = λ y. ltb→lt _ _ (where-failed _ _ j (ne-eqb _ _ y));
-    }
-
-memory-facts : (k : Shape) (m : Memory) → Each T (memory-tests k m) → Whole k m
-unfolding slot-sound desk-sound writer-sound
-memory-facts k m (also w (also a (also b (also d none)))) =
-    record {
-      word = word-of k (m current) w;
-      slot = λ s l.
-          slot-facts k m s
-          (each-passes (slot-tests k m s) (each-of (k .n + 2) 0 (slot-sound k m) a s (omega arith) (omega arith)));
-      desk = λ r l.
-          desk-facts k m r
-          (each-passes (desk-tests k m r) (each-of (k .n) 0 (desk-sound k m) b r (omega arith) (omega arith)));
-      writer = writer-facts k m (each-passes (writer-tests k m) d);
+      phases = leb→le _ _ (test 0);
+      last-one = ltb→lt _ _ (test 1);
+      hand-one = ltb→lt _ _ (test 2);
+      part = leb→le _ _ (test 3);
+      words = leb→le _ _ (test 4);
+      before = word-of k (m old-word) (test 5);
+      copying = λ y. ltb→lt _ _ (where-passed _ _ (test 6) (eq-eqb _ _ y));
+      unmoved = λ y. eqb→eq _ _ (where-passed _ _ (test 7) (eq-eqb _ _ y));
+      room = λ y. ltb→lt _ _ (where-failed _ _ (test 8) (ne-eqb _ _ y));
     }
 
 pub whole-of : (k : Shape) (m : Memory) → T (all (memory-tests k m)) → Whole k m
-whole-of k m t = memory-facts k m (each-passes (memory-tests k m) t)
+unfolding slot-sound desk-sound writer-sound
+whole-of k m t =
+    let test = test-passes (memory-tests k m) t in
+    record {
+      word = word-of k (m current) (test 0);
+      slot = λ s l. slot-facts k m s (each-of (k .n + 2) 0 (slot-sound k m) (test 1) s (omega arith) (omega arith));
+      desk = λ r l. desk-facts k m r (each-of (k .n) 0 (desk-sound k m) (test 2) r (omega arith) (omega arith));
+      writer = writer-facts k m (test 3);
+    }
 
 -- ---- to the test
 

@@ -2,15 +2,14 @@
 use mathlib.Core.Path.{_≡_, refl, sym, ap, _∙_}
 use mathlib.Core.Bool.{Bool, true, false, _&&_, and-true, and-assoc}
 use mathlib.Core.List.{List, [], _∷_, _++_}
-use Prim.Native.Nat.{ℕ, _+_, _*_, _≤_}
+use Prim.Native.Nat.{ℕ, _+_, _*_}
 use native.Mathlib.Omega.{arith}
-use lib.Dec.{T, eqb, leb, leb→le, eqb→eq}
+use lib.Dec.{eqb, leb, leb→le, eqb→eq}
 use lib.ListN.{length, getD}
 use Rattle.theory.specs.Lists.{all}
-use Rattle.theory.specs.Lists.{Each, none, also}
-use Rattle.theory.proofs.Tests.{true-passes, each-passes}
-use Rattle.runfile.specs.RunFile.{readers, capacity, starting-length, moves, moves-at, values, values-at}
-use Rattle.runfile.specs.RunFile.{header-bytes, file-tests, is-run-file, Written, written}
+use Rattle.theory.proofs.Tests.{true-passes, test-passes}
+use Rattle.runfile.specs.RunFile.{readers, moves, values, header-bytes, file-tests, is-run-file, Written}
+use Rattle.runfile.specs.RunFile.{written}
 use Rattle.runfile.specs.Conditions.{FileFacts}
 use Rattle.runfile.specs.Bytes.{number-at}
 use Rattle.runfile.specs.Code.{header-of, size-tests, part-tests}
@@ -20,27 +19,22 @@ use Rattle.runfile.specs.declared.types.Header.{Header}
 
 pub file-facts : (b : List ℕ) → is-run-file b ≡ true → FileFacts b
 unfolding is-run-file
-file-facts b e = go (each-passes (file-tests b) (true-passes _ e))
-  where
-    go : Each T (file-tests b) → FileFacts b
-    go
-        (also l (also n1 (also n8 (also c1 (also c32 (also i (also m (also p
-        (also v (also j (also q (also x none))))))))))))
-        =
-        record {
-          whole-header = leb→le _ _ l;
-          some-readers = leb→le _ _ n1;
-          few-readers = leb→le _ _ n8;
-          some-words = leb→le _ _ c1;
-          few-words = leb→le _ _ c32;
-          short = leb→le _ _ i;
-          few-moves = leb→le _ _ m;
-          moves-place = eqb→eq _ _ p;
-          few-values = leb→le _ _ v;
-          recorded = leb→le _ _ j;
-          values-place = eqb→eq _ _ q;
-          exact = eqb→eq _ _ x;
-        }
+file-facts b e =
+    let test = test-passes (file-tests b) (true-passes _ e) in
+    record {
+      whole-header = leb→le _ _ (test 0);
+      some-readers = leb→le _ _ (test 1);
+      few-readers = leb→le _ _ (test 2);
+      some-words = leb→le _ _ (test 3);
+      few-words = leb→le _ _ (test 4);
+      short = leb→le _ _ (test 5);
+      few-moves = leb→le _ _ (test 6);
+      moves-place = eqb→eq _ _ (test 7);
+      few-values = leb→le _ _ (test 8);
+      recorded = leb→le _ _ (test 9);
+      values-place = eqb→eq _ _ (test 10);
+      exact = eqb→eq _ _ (test 11);
+    }
 
 -- a move from the numbers that were read at its place
 pub move-read : (b : List ℕ) (k process kind len : ℕ) → process ≡ number-at 1 b (header-bytes + 4 * k)

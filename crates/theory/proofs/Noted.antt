@@ -9,8 +9,8 @@ use mathlib.Core.Logic.{_≢_}
 use mathlib.Core.Bool.{false}
 use Prim.Native.Nat.{ℕ, suc, _≤_}
 use Rattle.theory.specs.Place.{Record}
-use Rattle.theory.specs.History.{Got, Deed, read-began, write-began, went-on, looked, published}
-use Rattle.theory.specs.History.{read-ended, write-ended, History, the-write, noted}
+use Rattle.theory.specs.History.{Got, Deed, read-began, write-began, went-on, looked, published, read-ended}
+use Rattle.theory.specs.History.{write-ended, History, the-write, noted}
 use Rattle.theory.proofs.Tests.{miss}
 use Rattle.theory.proofs.Placed.{Where, where-published, where-closed, Needs}
 use Rattle.theory.proofs.Copying.{Reading}

@@ -1,7 +1,7 @@
 -- Tests on numbers: what a test that passes or fails says, and what holds of either branch.
 --     passed, true-passes                 a test that passes is true, and the other way
 --     both, joined                        two tests that pass
---     each-passes, all-pass               a list of tests that pass
+--     all-pass, test-passes               a list of tests that pass; one of them, by its place
 --     where-passed, unless-passed         a test that is asked where another one passes
 --     where-failed, unless-failed         a test that is asked where another one fails
 --     differ-and-same, not-differ-and-same   two numbers that differ and two that do not
@@ -46,9 +46,10 @@ pub joined : (a b : Bool) → T a → T b → T (a && b)
 joined true b t u = u
 joined false b t u = absurd t
 
-pub each-passes : (l : List Bool) → T (all l) → Each T l
-each-passes [] t = none
-each-passes (b ∷ l) t = let (x, u) = both b (all l) t in also x (each-passes l u)
+pub test-passes : (l : List Bool) → T (all l) → (i : ℕ) → T (getD l i true)
+test-passes [] t i = tt
+test-passes (b ∷ l) t zero = both b (all l) t .0
+test-passes (b ∷ l) t (suc i) = test-passes l (both b (all l) t .1) i
 
 pub all-pass : (l : List Bool) → Each T l → T (all l)
 all-pass [] none = tt
