@@ -15,7 +15,7 @@ use lib.Dec.{ltb, ltb→lt, lt→ltb, lit<}
 use lib.ListN.{length, getD}
 use borrow.Author.Tests.{eq-eqb, lt-ltb}
 use Rattle.theory.specs.Place.{Memory, apply}
-use Rattle.theory.specs.Table.{total, address}
+use Rattle.theory.specs.Table.{total, address, width}
 use Rattle.register.specs.Area.{shape-of, phase, len, finished, desk-write-number, read-record, writer-phase}
 use Rattle.register.specs.Area.{readers, memory}
 use Rattle.register.specs.Shape.{Shape, table}
@@ -74,7 +74,7 @@ pub shows-desk : (a : List ℕ) (r : ℕ) → length a ≡ total (table (shape-o
     → memory a (len r) ≤ shape-of a .c
     → words-from a (address (table (shape-of a)) (read-record r 0)) (memory a (len r)) ≡ desk-record (memory a) r
 shows-desk a r e l k =
-    words-row a start (memory a (len r)) (omega (arith, e, mul-le-mul-right (6 + shape-of a .c) l, k))
+    words-row a start (memory a (len r)) (omega (arith, e, mul-le-mul-right (width (table (shape-of a)) 2) l, k))
     ∙ row-same (memory a (len r)) (λ j. getD a (start + j) 0) (λ j. memory a (read-record r j)) word
   where
     start : ℕ

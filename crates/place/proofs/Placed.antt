@@ -10,7 +10,9 @@ use native.Mathlib.Omega.{arith}
 use lib.Dec.{eqb}
 use lib.ListN.{length, take, drop}
 use Rattle.theory.specs.Place.{Record}
-use Rattle.register.specs.Area.{readers, len, shape-of}
+use Rattle.theory.specs.Table.{width}
+use Rattle.register.specs.Shape.{table}
+use Rattle.register.specs.Area.{len, shape-of}
 use Rattle.theory.specs.Lists.{all}
 use Rattle.register.specs.Calls.{is-own, shown}
 use Rattle.area.specs.declared.Layout.{Layout}
@@ -84,7 +86,7 @@ module _ (a : List ℕ) (r : ℕ) where
   -- the words of the desk's record lie within the area
   record-within : {p : Layout} → Own p a r → desk-word (its-shape p) r 6 + memory-of p a (len r) ≤ length a
   record-within {p} o =
-      omega (arith, mul-le-mul-right (6 + p .c) (o .exists), o .sized .exact, o .sound .desk r (o .exists) .words)
+      omega (arith, mul-le-mul-right (width (table (its-shape p)) 2) (o .exists), o .sized .exact, o .sound .desk r (o .exists) .words)
 
   within : place-of a r .yes ≡ 1 → place-of a r .at + place-of a r .len ≤ length a
   unfolding place-of
