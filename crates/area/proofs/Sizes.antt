@@ -9,8 +9,11 @@ use Rattle.theory.proofs.Tables.{row-within}
 use Rattle.area.specs.declared.Layout.{Layout}
 use Rattle.area.specs.Words.{word-at, layout-of, its-shape, Laid}
 
--- the largest area has 34,199 words
-pub total-small : (k : Shape) → k .n ≤ 64 → k .c ≤ 256 → total (table k) ≤ 34199
+-- the words of the largest area
+abbrev pub largest : ℕ
+largest = 34199
+
+pub total-small : (k : Shape) → k .n ≤ 64 → k .c ≤ 256 → total (table k) ≤ largest
 total-small k h l = omega (arith, slots, desks)
   where
     slots : (k .n + 2) * width (table k) 1 ≤ 66 * 260
@@ -35,7 +38,7 @@ laid-of h l e =
 pub record Stands (p : Layout) (g start wide r f : ℕ) : Type 0 where
   pub is : start + (r * wide + f) ≡ word-at (table (its-shape p)) g r f
   pub within : start + (r * wide + f) < total (table (its-shape p))
-  pub small : total (table (its-shape p)) ≤ 34199
+  pub small : total (table (its-shape p)) ≤ largest
 
 module _ {p : Layout} (l : Laid p) where
   -- the number of words that a layout says
@@ -47,7 +50,7 @@ module _ {p : Layout} (l : Laid p) where
   limit-is = ap (λ q. q .limit) (l .exact)
 
   -- its area is small
-  laid-small : total (table (its-shape p)) ≤ 34199
+  laid-small : total (table (its-shape p)) ≤ largest
   laid-small = total-small (its-shape p) (l .few-readers) (l .few-words)
 
   -- the words of a slot, of a reader's desk, of the writer's desk
@@ -84,14 +87,14 @@ desk-wide l = omega (arith, ap (λ q. q .desk) (l .exact))
 
 -- word j of a reader's record stands so far into the desk
 pub record InDesk (p : Layout) (j : ℕ) : Type 0 where
-  pub starts : p .words ≡ offset (table (its-shape p)) 2 6
-  pub small-start : p .words ≤ 6
+  pub starts : p .kept ≡ offset (table (its-shape p)) 2 6
+  pub small-start : p .kept ≤ 6
   pub few : j < 256
-  pub fits : p .words + j < p .desk
+  pub fits : p .kept + j < p .desk
 
 pub in-desk : {p : Layout} → Laid p → (j : ℕ) → j < p .c → InDesk p j
 in-desk l j h =
-    let start = ap (λ q. q .words) (l .exact) in
+    let start = ap (λ q. q .kept) (l .exact) in
     let wide = ap (λ q. q .desk) (l .exact) in
     record {
       starts = start;

@@ -34,7 +34,7 @@ module _ (k : Shape) where
         slots = slots-at k;
         desks = desks-at k;
         desk = width (table k) 2;
-        words = offset (table k) 2 6;
+        kept = offset (table k) 2 6;
         writer = writer-at k;
         total = total (table k);
       }

@@ -11,8 +11,8 @@ pub mod records;
 pub mod stores;
 
 // The shape of an area, for n readers and records of at most c words, and all that depends on it: the limit of
-// r_start, r_end and the counters; where its parts begin; the words of a reader's desk, and where the words of its
-// record begin in it; the words of all.
+// r_start, r_end and the counters; where its parts begin; the words of a reader's desk, and where the record that it
+// keeps begins in it; the words of all.
 pub struct Layout {
     pub form: u64,
     pub n: usize,
@@ -21,7 +21,7 @@ pub struct Layout {
     pub slots: usize,
     pub desks: usize,
     pub desk: usize,
-    pub words: usize,
+    pub kept: usize,
     pub writer: usize,
     pub total: usize,
 }
@@ -105,7 +105,7 @@ impl Layout {
             slots: Layout::HEADER,
             desks,
             desk,
-            words: Layout::DESK,
+            kept: Layout::DESK,
             writer,
             total: writer + (Layout::WRITER + c),
         }

@@ -48,7 +48,7 @@ pub fn set_read_record(area: &mut [u64], p: Layout, r: usize, j: usize, v: u64)
     requires { ⌜ Sized p (now area) × (r < p .n) × (j < p .c) ⌝ }
     ensures { λ _. ⌜ now (area .exit) ≡ words-after p (now (area .entry)) (read-record r j ≔ v ∷ []) ⌝ }
 {
-    let i = p.desk_word(r, p.words + j);
+    let i = p.desk_word(r, p.kept + j);
     area[i] = v;
 }
 

@@ -1,12 +1,10 @@
 -- A call on any list of words: a refusal changes nothing; an accepted call was made on an undamaged area, carries its
 -- plan out and leaves an undamaged area with the same head.
---     InRange, range-facts, AreaFacts, area-facts, same-area   test 1 as facts
---     its-plan                            the plan of a call
+--     same-area                           words with the head and the length of an area are one
 --     refused-is, refused-keeps           a refusal
 --     Opened, opened                      what an accepted call was made of
---     whole-area, sound-area              test 2 as facts, and the other way
 --     does                                the move of the relation that an accepted call is
---     after-is, after-length, after-head, after-area, after-table, after-view, after-memory, after-exact,
+--     after-is, after-length, after-head, after-area, after-shape, after-view, after-memory, after-exact,
 --     after-whole, after-sound            the area that it leaves
 -- Assumes nothing.
 use mathlib.Core.Path.{_≡_, refl, sym, ap, subst, _∙_}

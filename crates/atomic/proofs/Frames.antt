@@ -18,7 +18,7 @@ use borrow.Author.Tests.{ne-eqb}
 use Rattle.theory.specs.Lists.{all}
 use Rattle.theory.specs.Place.{Place, Memory, Store, apply}
 use Rattle.theory.specs.History.{Got, Deed}
-use Rattle.register.specs.Shape.{limit, Shape}
+use Rattle.register.specs.Shape.{Shape, limit}
 use Rattle.register.specs.Area.{current, index, r-start, r-end, size, slot-write-number, contents, phase, last}
 use Rattle.register.specs.Area.{finished, writer-phase, in-hand, old-word}
 use Rattle.register.specs.Steps.{sets-phase, unbinds, binds, takes, copies, finishes, sets-out, passes, sizes}

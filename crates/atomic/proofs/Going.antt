@@ -11,7 +11,7 @@ use Rattle.register.proofs.Facts.{number-of}
 use Rattle.theory.specs.Place.{Record, Memory}
 use Rattle.register.specs.Area.{current, counter, r-end, size, most-writes, phase, last, pos, len, writer-phase}
 use Rattle.register.specs.Area.{in-hand, writes-ended}
-use Rattle.register.specs.Shape.{limit, Shape}
+use Rattle.register.specs.Shape.{Shape, limit}
 use Rattle.register.specs.Steps
 use Rattle.register.specs.Steps.{Plan, refuse, accept, read-begins, write-begins, reader-step, writer-step, free}
 use Rattle.theory.proofs.Tests.{if-true, if-equal, if-less, end, next, at-number}

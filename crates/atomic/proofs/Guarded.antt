@@ -1,13 +1,14 @@
--- What all that is told of slots and readers rests on, as one record of facts. It knows nothing of how it is known that
--- a slot is held: a register whose slots are held in another way shows the same record in its own way, and shares all
--- that is above it. Assumes nothing.
+-- What all that is told of slots and readers rests on, as one record of facts. It says nothing of how it is known that
+-- a slot is held: a register whose slots are held in another way shows such a record in its own way, and shares all
+-- that is above it. Its last two facts are of r_end and of the current word's counter; only never being refused rests
+-- on them. Assumes nothing.
 use mathlib.Core.Path.{_≡_}
 use mathlib.Core.Logic.{_≢_}
 use mathlib.Core.Bool.{false}
 use Prim.Native.Nat.{ℕ, suc, _+_, _≤_, _<_}
 use Rattle.theory.specs.Place.{Memory}
 use Rattle.register.specs.Area.{current, index, counter, r-end, phase, last, writer-phase, in-hand}
-use Rattle.register.specs.Shape.{limit, Shape}
+use Rattle.register.specs.Shape.{Shape, limit}
 use Rattle.register.specs.Steps.{free}
 use Rattle.atomic.proofs.Frames.{Unfilled}
 

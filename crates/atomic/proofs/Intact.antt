@@ -12,7 +12,7 @@ use Rattle.theory.specs.Place.{Record, Memory, Store, apply}
 use Rattle.theory.specs.Table.{address, has, Untouched}
 use Rattle.register.specs.Area.{shape-of, phase, len, finished, read-record, writer-phase, writes-ended, most-writes}
 use Rattle.register.specs.Area.{readers, memory}
-use Rattle.register.specs.Shape.{table, Shape}
+use Rattle.register.specs.Shape.{Shape, table}
 use Rattle.theory.specs.Lists.{all, words-from, Each}
 use Rattle.register.specs.Steps.{Plan, refuse, accept, sets-phase, begins-write, Move, read, write, step, mover}
 use Rattle.register.specs.Calls.{carried-out, answered, is-own, shown}

@@ -11,7 +11,7 @@ use Rattle.theory.specs.Place.{Record, Memory, Store, _≔_, apply}
 use Rattle.register.specs.Area.{current, index, counter, r-start, r-end, size, slot-write-number, contents}
 use Rattle.register.specs.Area.{most-writes, phase, last, pos, len, desk-write-number, read-record, writer-phase}
 use Rattle.register.specs.Area.{last-slot, in-hand, writer-pos, writer-len, writes-ended, write-record}
-use Rattle.register.specs.Shape.{limit, Shape}
+use Rattle.register.specs.Shape.{Shape, limit}
 use Rattle.register.specs.Steps.{sets-phase, unbinds, binds, takes, copies, finishes, passes, sizes, clears-start}
 use Rattle.register.specs.Steps.{sets-out, clears-end, publishes, freezes}
 use Rattle.register.specs.Calls.{published-writes}

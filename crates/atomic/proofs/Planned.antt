@@ -17,7 +17,7 @@ use Rattle.theory.specs.Place.{Record, Place, Memory, apply, copied}
 use Rattle.register.specs.Area.{current, index, counter, r-end, size, most-writes, phase, last, pos, len}
 use Rattle.register.specs.Area.{desk-write-number, writer-phase, in-hand, writer-pos, writer-len, old-word}
 use Rattle.register.specs.Area.{writes-ended, write-record}
-use Rattle.register.specs.Shape.{limit, Shape}
+use Rattle.register.specs.Shape.{Shape, limit}
 use Rattle.register.specs.Steps.{Plan, refuse, accept, write-begins, reader-step, writer-step, begins-write, free}
 use Rattle.register.specs.Steps.{sets-phase, compares, sets-out, Move, read, write, step, mover, plan}
 use Rattle.register.specs.Steps

@@ -1,4 +1,4 @@
--- What the memory of form 1 holds and what its run has told, as one invariant: the current slot and every slot that a
+-- What the memory of an area holds and what its run has told, as one invariant: the current slot and every slot that a
 -- reader is bound to hold whole writes, the writer's desk and the slot in hand what was given. Assumes nothing.
 use mathlib.Core.Path.{_≡_}
 use mathlib.Core.List.{List}

@@ -12,7 +12,7 @@ use Rattle.theory.specs.Table.{Untouched, has}
 use Rattle.theory.specs.Place.{Record, Store}
 use Rattle.register.specs.Area.{phase, len, desk-write-number, writer-phase, writer-len, writes-ended, most-writes}
 use Rattle.register.specs.Area.{shape-of, readers, is-area, memory, undamaged}
-use Rattle.register.specs.Shape.{table, Shape}
+use Rattle.register.specs.Shape.{Shape, table}
 use Rattle.register.specs.Steps.{accept, Move, mover, plan}
 use Rattle.register.specs.Calls.{Answer, made, answered, read-begun, write-begun, stepped, shown, after}
 use Rattle.register.specs.Conditions.{word}

@@ -7,7 +7,7 @@ use native.Mathlib.Nat.{mul-le-mul, le-trans}
 use native.Mathlib.Omega.{arith}
 use lib.ListN.{length, take}
 use lib.Seq.{length-take-le}
-use Rattle.theory.specs.Table.{total}
+use Rattle.theory.specs.Table.{width, total}
 use Rattle.register.specs.Shape.{shape, table}
 use Rattle.area.specs.Words.{layout-of}
 use Rattle.area.specs.declared.Layout.{Layout}
@@ -21,11 +21,12 @@ use Rattle.bench.specs.Sizes.{area-words}
 -- the largest area of a run: N = 8 and C = 32
 room-for-all : (b : List ℕ) → readers b ≤ 8 → capacity b ≤ 32 → total (table (run-shape b)) ≤ area-words
 room-for-all b few short =
+    let t = table (run-shape b) in
     let more : readers b + 2 ≤ 10 = omega arith in
-    let slot : 4 + capacity b ≤ 36 = omega arith in
-    let desk : 6 + capacity b ≤ 38 = omega arith in
-    let slots : (readers b + 2) * (4 + capacity b) ≤ 10 * 36 = mul-le-mul more slot in
-    let desks : readers b * (6 + capacity b) ≤ 8 * 38 = mul-le-mul few desk in
+    let slot : width t 1 ≤ 36 = omega arith in
+    let desk : width t 2 ≤ 38 = omega arith in
+    let slots : (readers b + 2) * width t 1 ≤ 10 * 36 = mul-le-mul more slot in
+    let desks : readers b * width t 2 ≤ 8 * 38 = mul-le-mul few desk in
     omega arith
 
 module _ (b : List ℕ) (e : is-run-file b ≡ true) (h : Header) (head : h ≡ header-of b) where

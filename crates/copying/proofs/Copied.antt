@@ -16,10 +16,9 @@ use lib.Dec.{eqb, ltb}
 use borrow.Author.Tests.{eq-eqb, ne-eqb, lt-ltb}
 use Rattle.register.specs.Shape.{table}
 use Rattle.theory.specs.Place.{Memory, Store, _≔_, apply}
-use Rattle.register.specs.Area.{size, slot-write-number, contents}
-use Rattle.register.specs.Area.{phase, last, pos, len, desk-write-number, finished, read-record}
+use Rattle.register.specs.Area.{size, slot-write-number, contents, phase, last, pos, len, desk-write-number}
+use Rattle.register.specs.Area.{finished, read-record, writer-phase, writes-ended, most-writes}
 use Rattle.register.specs.Steps.{accept, sets-phase, takes, copies, finishes, reader-4, reader-5}
-use Rattle.register.specs.Area.{writer-phase, writes-ended, most-writes}
 use Rattle.register.specs.Calls.{age-of}
 use Rattle.theory.specs.Lists.{none, also}
 use Rattle.theory.proofs.Tables.{AllHas, view-store}

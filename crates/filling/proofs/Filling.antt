@@ -12,8 +12,8 @@ use native.Mathlib.Numerals.{add-one}
 use lib.Dec.{eqb}
 use borrow.Author.Tests.{eq-eqb, ne-eqb}
 use Rattle.theory.specs.Place.{_≔_}
-use Rattle.register.specs.Area.{r-start, r-end, size, slot-write-number, contents}
-use Rattle.register.specs.Area.{writer-phase, last-slot, in-hand, writer-pos, writer-len, writes-ended, write-record}
+use Rattle.register.specs.Area.{r-start, r-end, size, slot-write-number, contents, writer-phase, last-slot, in-hand}
+use Rattle.register.specs.Area.{writer-pos, writer-len, writes-ended, write-record}
 use Rattle.register.specs.Steps.{accept, looks, free, picks, passes, fills, sizes}
 use Rattle.area.specs.Words.{its-shape, memory-of}
 use Rattle.area.specs.declared.Layout.{Layout}

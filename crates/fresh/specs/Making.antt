@@ -7,8 +7,7 @@ use lib.ListN.{length}
 use Rattle.theory.specs.Place.{Record, Store, _≔_, copied}
 use Rattle.theory.specs.Table.{total}
 use Rattle.register.specs.Area.{header, current, size, contents}
-use Rattle.register.specs.Shape.{Shape, table, slots-at, desks-at, writer-at}
-use Rattle.register.specs.Shape.{known-form, in-range}
+use Rattle.register.specs.Shape.{Shape, table, slots-at, desks-at, writer-at, known-form, in-range}
 use Rattle.register.specs.Steps.{_else_, unless}
 
 -- for as many words lent and a record of a length: the first test that fails gives its number, and 0 says that all

@@ -45,7 +45,7 @@ module _ (a : List ℕ) (r : ℕ) where
 
   -- the reader's, by the area's layout
   pub place-own : {p : Layout} {at words : ℕ} → p ≡ layout-of (shape-of a) → is-own a r ≡ true
-      → at ≡ desk-word (its-shape p) r (p .words) → words ≡ memory-of p a (len r)
+      → at ≡ desk-word (its-shape p) r (p .kept) → words ≡ memory-of p a (len r)
       → record { yes = 1; at = at; len = words } ≡ place-of a r
   unfolding place-of
   place-own l e f g = rw (e, f, g, l)
@@ -86,7 +86,12 @@ module _ (a : List ℕ) (r : ℕ) where
   -- the words of the desk's record lie within the area
   record-within : {p : Layout} → Own p a r → desk-word (its-shape p) r 6 + memory-of p a (len r) ≤ length a
   record-within {p} o =
-      omega (arith, mul-le-mul-right (width (table (its-shape p)) 2) (o .exists), o .sized .exact, o .sound .desk r (o .exists) .words)
+      omega (
+        arith,
+        mul-le-mul-right (width (table (its-shape p)) 2) (o .exists),
+        o .sized .exact,
+        o .sound .desk r (o .exists) .words,
+      )
 
   within : place-of a r .yes ≡ 1 → place-of a r .at + place-of a r .len ≤ length a
   unfolding place-of

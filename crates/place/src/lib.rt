@@ -52,7 +52,7 @@ pub fn place_of(area: &[u64], reader: u64) -> RecordPlace
         return nowhere();
     }
     let r = reader as usize;
-    let at = p.desk_word(r, p.words);
+    let at = p.desk_word(r, p.kept);
     let len = fields::desk_field(area, p, r, Layout::LEN);
     RecordPlace {
         yes: 1,

@@ -6,8 +6,8 @@ use mathlib.Core.List.{List}
 use Prim.Native.Nat.{ℕ, _+_, _*_}
 use native.Mathlib.Numerals.{add-one}
 use Rattle.theory.specs.Place.{_≔_}
-use Rattle.register.specs.Area.{current, index, counter, r-start, r-end}
-use Rattle.register.specs.Area.{writer-phase, last-slot, in-hand, old-word, writes-ended}
+use Rattle.register.specs.Area.{current, index, counter, r-start, r-end, writer-phase, last-slot, in-hand, old-word}
+use Rattle.register.specs.Area.{writes-ended}
 use Rattle.register.specs.Steps.{accept, clears-start, clears-end, publishes, freezes}
 use Rattle.area.specs.Words.{memory-of}
 use Rattle.area.specs.declared.Layout.{Layout}

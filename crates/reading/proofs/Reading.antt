@@ -10,8 +10,8 @@ use lib.ListN.{List·getD-eq-default}
 use borrow.Author.Tests.{eq-eqb, ne-eqb, lt-ltb, le-ltb}
 use Rattle.theory.specs.Place.{Memory}
 use Rattle.register.specs.Area.{phase}
-use Rattle.register.specs.Steps.{Plan, refuse, at-phase, sets-phase, read-begins, reader-step}
-use Rattle.register.specs.Steps.{reader-1, reader-2, reader-3, reader-4, reader-5}
+use Rattle.register.specs.Steps.{Plan, refuse, at-phase, sets-phase, read-begins, reader-step, reader-1, reader-2}
+use Rattle.register.specs.Steps.{reader-3, reader-4, reader-5}
 use Rattle.area.specs.Words.{words-after, its-shape}
 use Rattle.area.specs.declared.Layout.{Layout}
 use Rattle.answer.specs.declared.Answer.{Answer as Returned}

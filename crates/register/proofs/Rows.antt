@@ -1,7 +1,7 @@
 -- Rows of a table "given exactly when", one in front of others: the first whose condition holds gives its number.
 --     Says                                          a test fails exactly if a condition holds
---     unless-not, -below, -at-most, -idle, -full    tests, and the conditions that they say
---     row, number-row                               a test in front, and its row in front; of a number alone
+--     unless-not, -below, -at-most, -equal          tests, and the conditions that they say
+--     row                                           a test in front, and its row in front
 --     passes, holds, nothing-more                   a row that does not hold, one that does, no row: 0
 -- Assumes nothing.
 use mathlib.Core.Path.{_≡_, refl, sym, _∙_}

@@ -1,16 +1,16 @@
 -- Document 01's small runs marked P, computed from the definitions: one statement over one table. Assumes nothing.
 use mathlib.Core.Path.{_≡_, refl}
 use mathlib.Core.Bool.{Bool, true, false}
-use mathlib.Core.List.{List, [], _∷_, _++_}
+use mathlib.Core.List.{List, [], _∷_, _++_, map}
 use Prim.Native.Nat.{ℕ}
-use lib.ListN.{getD, take, replicate}
+use lib.ListN.{getD, set, take, replicate}
 use Rattle.theory.specs.Place.{Record}
 use Rattle.theory.specs.Table.{total}
 use Rattle.register.specs.Shape.{shape, table}
 use Rattle.register.specs.Area.{current, writer-phase, in-hand, is-area, slot-sound, desk-sound, writer-sound}
 use Rattle.register.specs.Area.{undamaged, memory}
-use Rattle.register.specs.Steps.{reader-step, writer-step, Move, read, write, step}
-use Rattle.register.specs.Calls.{Answer, fresh, carried-out, answered, is-own, shown, after}
+use Rattle.register.specs.Steps.{reader-step, writer-step, Move, read, write, step, unless}
+use Rattle.register.specs.Calls.{Answer, fresh, made, call-tests, carried-out, answered, is-own, shown, after}
 use Rattle.theory.specs.Lists.{Each, none, also}
 
 -- the answer to a move after some others
@@ -34,6 +34,13 @@ areaP1 = fresh (shape 1 1 1) (7 ∷ [])
 
 abbrev areaP8 : List ℕ
 areaP8 = fresh (shape 1 1 2) (1 ∷ 2 ∷ [])
+
+-- P1's area with a reader in phase 6, and what the tests of a call that a form has or lacks give
+abbrev damagedP1 : List ℕ
+damagedP1 = set areaP1 23 6
+
+abbrev tested : List ℕ → Bool → ℕ
+tested a has = unless (λ k. k) (call-tests a has) 0
 
 -- the moves of input A, of which the last is refused
 abbrev pub input-A : List Move
@@ -96,14 +103,22 @@ small-runs =
     ∷ answer-to areaP8 (write [] ∷ []) (write (3 ∷ 4 ∷ 5 ∷ [])) .number
     ∷ [])
     (0 ∷ 4 ∷ 4 ∷ [])
+    -- forms 0, 1 and 2 at making, and form 2 in word 0; a call that the form lacks, on an undamaged area and on a
+    -- damaged one, and one that it has on the damaged one
+    ∷ row-of
+    (map (λ f. made (shape f 1 1) [] areaP1 .number) (0 ∷ 1 ∷ 2 ∷ [])
+    ++ (answered (set areaP1 0 2) (read 0) .number ∷ []))
+    (9 ∷ 0 ∷ 9 ∷ 1 ∷ [])
+    ∷ row-of (tested areaP1 false ∷ tested damagedP1 false ∷ tested damagedP1 true ∷ []) (1 ∷ 1 ∷ 2 ∷ [])
     -- P10
     ∷ row-of (answered areaP1 (step 0) .number ∷ answered areaP1 (step 1) .number ∷ []) (6 ∷ 6 ∷ [])
     ∷ []
 
 -- every row holds
 pub small-runs-hold : Each (λ x. x .given ≡ x .wanted) small-runs
-unfolding is-area slot-sound desk-sound writer-sound undamaged reader-step writer-step carried-out answered is-own shown
+unfolding is-area slot-sound desk-sound writer-sound undamaged reader-step writer-step made carried-out answered is-own
+    shown
 small-runs-hold =
     also refl
     (also refl (also refl (also refl (also refl (also refl
-    (also refl (also refl (also refl (also refl (also refl none))))))))))
+    (also refl (also refl (also refl (also refl (also refl (also refl (also refl none))))))))))))

@@ -10,7 +10,7 @@ use Rattle.register.specs.Area.{current, slot-field, contents, desk-fiel
 use Rattle.register.specs.Area.{write-record, r-start, r-end, size, slot-write-number, phase, last, pos, len}
 use Rattle.register.specs.Area.{desk-write-number, finished, writer-phase, last-slot, in-hand, writer-pos}
 use Rattle.register.specs.Area.{writer-len, old-word, writes-ended, shape-of, memory}
-use Rattle.register.specs.Shape.{table, Shape}
+use Rattle.register.specs.Shape.{Shape, table}
 use Rattle.register.specs.Conditions.{word}
 use Rattle.register.specs.Stands.{slot, desk, writer, WordsStand}
 use Rattle.theory.proofs.Tables.{Has, view-here}

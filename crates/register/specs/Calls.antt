@@ -11,8 +11,8 @@ use Rattle.register.specs.Shape.{Shape, table, slots-at, desks-at, write
 use Rattle.register.specs.Area.{header, current, size, contents, phase, len, desk-write-number, finished}
 use Rattle.register.specs.Area.{read-record, writer-phase, writes-ended, shape-of, readers, is-area, memory}
 use Rattle.register.specs.Area.{undamaged}
-use Rattle.register.specs.Steps.{_else_, unless, Plan, refuse, accept, Move, read, write, step, mover, plan}
-use Rattle.register.specs.Steps.{has-call}
+use Rattle.register.specs.Steps.{Refusal, _else_, unless, Plan, refuse, accept, Move, read, write, step}
+use Rattle.register.specs.Steps.{mover, plan, has-call}
 
 -- what a call returns, and the area as it leaves it
 pub record Answer : Type 0 where
@@ -68,11 +68,14 @@ carried-out p a (accept stores ends) =
       area = store (table (shape-of a)) a stores;
     }
 
--- every call on an existing area tests it before anything else, and then carries out its plan; a call that the area's
--- form lacks answers 1
+-- every call on an existing area tests it before anything else; a call that the area's form lacks answers 1 too
+abbrev pub call-tests : List ℕ → Bool → List Refusal
+call-tests a has = is-area a else 1 ∷ has else 1 ∷ undamaged a else 2 ∷ []
+
+-- and then carries out its plan
 unfoldable pub answered : List ℕ → Move → Answer
 answered a x =
-    unless (λ k. refused k a) (is-area a else 1 ∷ has-call (shape-of a) x else 1 ∷ undamaged a else 2 ∷ [])
+    unless (λ k. refused k a) (call-tests a (has-call (shape-of a) x))
     (carried-out (mover (shape-of a) x) a (plan (shape-of a) (memory a) x))
 
 abbrev pub read-begun : List ℕ → ℕ → Answer

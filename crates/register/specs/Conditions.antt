@@ -7,9 +7,8 @@ use Prim.Native.Nat.{ℕ, _+_, _*_, _/_, _%_, _≤_, _<_}
 use lib.ListN.{length, getD}
 use Rattle.theory.specs.Place.{Memory}
 use Rattle.register.specs.Area.{current, r-start, r-end, size, phase, last, pos, len, finished, writer-phase}
-use Rattle.register.specs.Area.{last-slot, in-hand, writer-pos, writer-len, old-word, writes-ended, shape-of}
-use Rattle.register.specs.Area.{memory}
-use Rattle.register.specs.Shape.{Shape}
+use Rattle.register.specs.Area.{last-slot, in-hand, writer-pos, writer-len, old-word, writes-ended, memory}
+use Rattle.register.specs.Shape.{Shape, shape}
 
 -- ---- numbers: the form is 1, N is 1 to 64, C is 1 to 256
 
@@ -22,9 +21,13 @@ pub record InRange (k : Shape) : Type 0 where
   pub some-words : 1 ≤ k .c
   pub few-words : k .c ≤ 256
 
--- ---- the layout: the words of a slot and of a desk, where the desks begin, the total T
+-- ---- the layout: where the slots begin, the words of a slot and of a reader's desk, where the desks begin, the
+-- total T; and the most that r_start, r_end and the counters may be
 
 module _ (k : Shape) where
+  abbrev pub slots-from : ℕ
+  slots-from = 8
+
   abbrev pub slot-words : ℕ
   slot-words = 4 + k .c
 
@@ -32,13 +35,16 @@ module _ (k : Shape) where
   desk-words = 6 + k .c
 
   abbrev pub desks-from : ℕ
-  desks-from = 8 + (k .n + 2) * slot-words
+  desks-from = slots-from + (k .n + 2) * slot-words
 
   abbrev pub writer-from : ℕ
   writer-from = desks-from + k .n * desk-words
 
   abbrev pub T-of : ℕ
   T-of = writer-from + 7 + k .c
+
+  abbrev pub most-counted : ℕ
+  most-counted = k .n
 
 -- ---- an area: eight words or more, and words 0 to 6 and the length are as the layout has them
 
@@ -47,27 +53,31 @@ module _ (a : List ℕ) where
   abbrev pub word : ℕ → ℕ
   word i = getD a i 0
 
+  -- the form, N and C that it says
+  abbrev pub said : Shape
+  said = shape (word 0) (word 1) (word 2)
+
   pub record AnArea : Type 0 where
     pub eight : 8 ≤ length a
     pub form : KnownForm (word 0)
-    pub range : InRange (shape-of a)
-    pub total : word 3 ≡ T-of (shape-of a)
-    pub slots : word 4 ≡ 8
-    pub desks : word 5 ≡ desks-from (shape-of a)
-    pub writer : word 6 ≡ writer-from (shape-of a)
-    pub exact : length a ≡ T-of (shape-of a)
+    pub range : InRange said
+    pub total : word 3 ≡ T-of said
+    pub slots : word 4 ≡ slots-from said
+    pub desks : word 5 ≡ desks-from said
+    pub writer : word 6 ≡ writer-from said
+    pub exact : length a ≡ T-of said
 
 -- ---- undamaged
 
 -- the current word, or the old word: its index is below N + 2, its counter at most N
 pub record WordWhole (k : Shape) (word : ℕ) : Type 0 where
   pub slot : word / 4294967296 < k .n + 2
-  pub count : word % 4294967296 ≤ k .n
+  pub count : word % 4294967296 ≤ most-counted k
 
 -- r_start and r_end are at most N, size is at most C
 pub record SlotWhole (k : Shape) (started gone size : ℕ) : Type 0 where
-  pub start : started ≤ k .n
-  pub end : gone ≤ k .n
+  pub start : started ≤ most-counted k
+  pub end : gone ≤ most-counted k
   pub words : size ≤ k .c
 
 -- pos is at most len, len at most C; pos is below len in phase 5
@@ -112,4 +122,4 @@ module _ (k : Shape) (m : Memory) where
 
 -- of any words
 abbrev pub Undamaged : List ℕ → Type 0
-Undamaged a = Whole (shape-of a) (memory a)
+Undamaged a = Whole (said a) (memory a)

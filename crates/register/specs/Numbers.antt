@@ -11,7 +11,7 @@ use Rattle.theory.specs.Place.{Record}
 use Rattle.register.specs.Area.{current, r-start, r-end, phase, last, finished, writer-phase, last-slot}
 use Rattle.register.specs.Area.{in-hand, writes-ended, memory}
 use Rattle.register.specs.Shape.{Shape}
-use Rattle.register.specs.Conditions.{KnownForm, InRange, T-of, word, AnArea, Undamaged}
+use Rattle.register.specs.Conditions.{KnownForm, InRange, T-of, most-counted, word, said, AnArea, Undamaged}
 use Rattle.register.specs.Calls.{made, read-begun, write-begun, stepped, is-own}
 
 -- ---- rows
@@ -46,6 +46,9 @@ module _ (a : List ℕ) where
 
   abbrev c : ℕ
   c = word a 2
+
+  abbrev most : ℕ
+  most = most-counted (said a)
 
   -- ---- a begin of a read: 1, 2, 3, 5
 
@@ -85,9 +88,9 @@ module _ (a : List ℕ) where
 
   -- the step would lift r_end (reader step 2) or the counter of current (reader step 3) above N
   pub data Overfull : ℕ → Type 0 where
-    gone : {r : ℕ} → r < n → memory a (phase r) ≡ 2 → n < memory a (r-end (memory a (last r))) + 1
+    gone : {r : ℕ} → r < n → memory a (phase r) ≡ 2 → most < memory a (r-end (memory a (last r))) + 1
         → Overfull r
-    bound : {r : ℕ} → r < n → memory a (phase r) ≡ 3 → n < memory a current % 4294967296 + 1 → Overfull r
+    bound : {r : ℕ} → r < n → memory a (phase r) ≡ 3 → most < memory a current % 4294967296 + 1 → Overfull r
 
   abbrev pub step-rows : ℕ → List Row
   step-rows p =

@@ -5,18 +5,17 @@ use mathlib.Core.List.{List, [], _∷_, map}
 use Prim.Native.Nat.{ℕ, _+_, _*_, _<_}
 use Rattle.register.specs.Area.{current, r-start, r-end, size, slot-write-number, contents, phase, last, pos}
 use Rattle.register.specs.Area.{len, desk-write-number, finished, read-record, writer-phase, last-slot}
-use Rattle.register.specs.Area.{in-hand, writer-pos, writer-len, old-word, writes-ended, write-record}
-use Rattle.register.specs.Area.{shape-of, memory}
+use Rattle.register.specs.Area.{in-hand, writer-pos, writer-len, old-word, writes-ended, write-record, memory}
 use Rattle.register.specs.Shape.{Shape}
-use Rattle.register.specs.Conditions.{slot-words, desk-words, desks-from, writer-from, word}
+use Rattle.register.specs.Conditions.{slots-from, slot-words, desk-words, desks-from, writer-from, word, said}
 
 module _ (a : List ℕ) where
   abbrev k : Shape
-  k = shape-of a
+  k = said a
 
   -- word f of slot s, of the desk of reader r, of the writer's desk
   abbrev pub slot : ℕ → ℕ → ℕ
-  slot s f = word a (8 + s * slot-words k + f)
+  slot s f = word a (slots-from k + s * slot-words k + f)
 
   abbrev pub desk : ℕ → ℕ → ℕ
   desk r f = word a (desks-from k + r * desk-words k + f)

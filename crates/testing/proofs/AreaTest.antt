@@ -7,11 +7,9 @@ use Prim.Native.Nat.{ℕ, _≤_, _<_}
 use lib.Dec.{eqb}
 use lib.ListN.{length, getD}
 use Rattle.theory.specs.Table.{total}
-use Rattle.register.specs.Shape.{table}
-use Rattle.register.specs.Area.{shape-of, is-area}
-use Rattle.register.specs.Shape.{known-form, in-range}
+use Rattle.register.specs.Shape.{table, known-form, in-range}
+use Rattle.register.specs.Area.{shape-of, is-area, memory-tests, undamaged}
 use Rattle.theory.specs.Lists.{all}
-use Rattle.register.specs.Area.{memory-tests, undamaged}
 use Rattle.register.proofs.Facts.{area-facts}
 use Rattle.area.specs.declared.Layout.{Layout}
 use Rattle.area.specs.Words.{its-shape, layout-of, Sized, memory-of}

@@ -6,9 +6,9 @@ use Prim.Native.Nat.{ℕ, _+_}
 use lib.Dec.{eqb, leb, ltb}
 use Rattle.theory.specs.Place.{Memory}
 use Rattle.theory.specs.Lists.{all, every}
-use Rattle.register.specs.Area.{memory-tests, current, word-sound, slot-sound, desk-sound, writer-sound}
-use Rattle.register.specs.Area.{r-start, r-end, size, phase, last, pos, len, finished, most-writes}
-use Rattle.register.specs.Area.{writer-phase, last-slot, in-hand, writer-pos, writer-len, old-word, writes-ended}
+use Rattle.register.specs.Area.{memory-tests, current, word-sound, slot-sound, desk-sound, writer-sound, r-start}
+use Rattle.register.specs.Area.{r-end, size, phase, last, pos, len, finished, most-writes, writer-phase, last-slot}
+use Rattle.register.specs.Area.{in-hand, writer-pos, writer-len, old-word, writes-ended}
 use Rattle.register.specs.Shape.{Shape, limit}
 use Rattle.area.proofs.Joined.{three, six, nine}
 

@@ -4,15 +4,13 @@ use mathlib.Core.Logic.{_≢_}
 use mathlib.Core.Bool.{false}
 use mathlib.Core.List.{List}
 use Prim.Native.Nat.{ℕ, _≤_, _<_}
-use borrow.Author.Tests.{le-leb, lt-leb}
+use borrow.Author.Tests.{le-leb, lt-leb, eq-eqb, ne-eqb, lt-ltb, le-ltb}
 use lib.ListN.{length}
-use borrow.Author.Tests.{eq-eqb, ne-eqb, lt-ltb, le-ltb}
 use Rattle.register.specs.Shape.{table}
 use Rattle.theory.specs.Place.{Record, _≔_, copied}
 use Rattle.register.specs.Area.{most-writes, writer-phase, in-hand, writer-pos, writer-len, writes-ended}
 use Rattle.register.specs.Area.{write-record}
-use Rattle.register.specs.Steps.{begins-write, write-begins}
-use Rattle.register.specs.Steps.{sets-out}
+use Rattle.register.specs.Steps.{begins-write, write-begins, sets-out}
 use Rattle.area.specs.Words.{memory-of, words-after, its-shape}
 use Rattle.area.specs.declared.Layout.{Layout}
 use Rattle.answer.specs.declared.Answer.{Answer as Returned}

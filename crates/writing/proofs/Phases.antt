@@ -9,8 +9,8 @@ use Prim.Native.Nat.{ℕ, _≤_}
 use native.Mathlib.Omega.{arith}
 use Rattle.theory.specs.Place.{Memory}
 use Rattle.register.specs.Area.{writer-phase}
-use Rattle.register.specs.Steps.{Plan, refuse, accept, at-phase, looks, writer-step}
-use Rattle.register.specs.Steps.{fills, sizes, clears-start, clears-end, publishes, freezes}
+use Rattle.register.specs.Steps.{Plan, refuse, accept, at-phase, looks, writer-step, fills, sizes, clears-start}
+use Rattle.register.specs.Steps.{clears-end, publishes, freezes}
 use Rattle.register.specs.Calls.{Answer}
 use Rattle.register.specs.Shape.{Shape}
 use Rattle.area.specs.Words.{its-shape, memory-of}

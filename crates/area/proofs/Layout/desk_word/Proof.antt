@@ -1,5 +1,4 @@
 -- `Layout::desk_word` meets its contract: the word stands within the area, and the area is small. Assumes nothing.
-use borrow.Author.Needs.{needs}
 use native.Mathlib.Omega.{arith}
 use Rattle.area.proofs.Sizes.{Stands, desk-stands}
 use Rattle.area.proofs.Layout.desk_word.Statement.{statement}

@@ -5,11 +5,11 @@ use native.Mathlib.Nat.{one-mul}
 use native.Mathlib.Omega.{arith}
 use Rattle.theory.specs.Table.{total}
 use Rattle.register.specs.Shape.{shape, table}
-use Rattle.area.proofs.Sizes.{total-small}
+use Rattle.area.proofs.Sizes.{largest, total-small}
 use Rattle.area.proofs.Layout.new.Statement.{statement}
 use Rattle.area.proofs.Layout.new.Tie as tie
 
-small : (c : tie.Start) → total (table (shape (c .args .form) (c .args .n) (c .args .c))) ≤ 34199
+small : (c : tie.Start) → total (table (shape (c .args .form) (c .args .n) (c .args .c))) ≤ largest
 small c = total-small (shape (c .args .form) (c .args .n) (c .args .c)) (c .pre .0) (c .pre .1)
 
 add-desks : tie.Need-add-desks
