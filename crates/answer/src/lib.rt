@@ -2,6 +2,8 @@
 ghost use mathlib.Core.Path.{_≡_};
 ghost use mathlib.Core.Bool.{false};
 
+pub mod age;
+
 // The number, whether an operation ended, and the age.
 pub struct Answer {
     pub number: u64,

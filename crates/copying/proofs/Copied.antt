@@ -1,6 +1,5 @@
 -- Steps 4 and 5 of a reader by each way through their code, over what the code reads and stores. Assumes nothing.
 --     word-there                      the word that the reader copies is one of its record's
---     one-more, asleep, awake         the writes published: the sum fits into a word, and is the definition's
 --     ended                           the end of a read: what it stores does not bear on the age
 --     room-taken, room-copied         what is stored before that leaves room for one more write
 --     taken, took-none, took-some     step 4: what is stored before the size is tested, and the two ways on
@@ -12,7 +11,7 @@ use mathlib.Core.List.{List, [], _∷_, _++_}
 use Prim.Native.Nat.{ℕ, _+_, _<_}
 use native.Mathlib.Numerals.{add-one}
 use native.Mathlib.Omega.{arith}
-use lib.Dec.{eqb, ltb}
+use lib.Dec.{ltb}
 use borrow.Author.Tests.{eq-eqb, ne-eqb, lt-ltb}
 use Rattle.register.specs.Shape.{table}
 use Rattle.theory.specs.Place.{Memory, Store, _≔_, apply}
@@ -33,19 +32,6 @@ use Rattle.answer.proofs.Stored.{then, returned, plan-accepts, goes-on}
 pub word-there : {p : Layout} {a : List ℕ} {r i : ℕ} → Ready p a → r < p .n → memory-of p a (phase r) ≡ 5
     → i ≡ memory-of p a (pos r) → i < p .c
 word-there {r = r} v h e f = let d = v .sound .desk r h in omega (arith, d .copying e, d .words, f)
-
--- ---- the writes published by now
-
--- `last` and `writer` are what the memory holds of writes ended and of the writer's phase
-module _ {ended phase last writer : ℕ} (e : ended ≡ last) (f : phase ≡ writer) where
-  pub one-more : phase ≡ 7 → (writer ≡ 7 → last < most-writes) → ended + 1 < 18446744073709551616
-  one-more h room = omega (arith, room (sym f ∙ h))
-
-  pub asleep : phase ≡ 7 → ended + 1 ≡ last + cond (eqb writer 7) 1 0
-  asleep h = rw (← e, ← f, eq-eqb phase 7 h)
-
-  pub awake : phase ≢ 7 → ended ≡ last + cond (eqb writer 7) 1 0
-  awake d = rw (← e, ← f, ne-eqb phase 7 d) (omega arith)
 
 -- ---- the end of a read: what it stores does not bear on the age
 

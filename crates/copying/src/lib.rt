@@ -1,5 +1,6 @@
 // Steps 4 and 5 of a reader: it takes size and write number of the slot that it bound, copies the words, and finishes.
 use answer::Answer;
+use answer::age;
 use area::Layout;
 use area::fields;
 use area::records;
@@ -9,7 +10,6 @@ ghost use mathlib.Core.Bool.{true};
 ghost use Prim.Native.Nat.{_<_};
 ghost use Rattle.register.specs.Area.{phase};
 ghost use Rattle.register.specs.Steps.{accept, finishes, reader-4, reader-5};
-ghost use Rattle.register.specs.Calls.{published-writes, age-of};
 ghost use Rattle.area.specs.Words.{its-shape, Sized, memory-of};
 ghost use Rattle.answer.specs.Carried.{whole, Ready, SumFits, carried};
 
@@ -65,7 +65,7 @@ fn finishes(area: &mut [u64], p: Layout, r: usize) -> Answer
         ≡ carried p r (now (area .entry)) (accept (finishes r) true)
         ⌝ }
 {
-    let age = age_of(area, p, r);
+    let age = age::age_of(area, p, r);
     stores::set_desk_field(area, p, r, Layout::FINISHED, 1);
     stores::set_desk_field(area, p, r, Layout::PHASE, 0);
     Answer {
@@ -73,24 +73,4 @@ fn finishes(area: &mut [u64], p: Layout, r: usize) -> Answer
         ended: true,
         age,
     }
-}
-
-// Writes published less the read's write number, not below 0.
-fn age_of(area: &[u64], p: Layout, r: usize) -> u64
-    requires { ⌜ Sized p (now area) × (r < p .n) × SumFits p (now area) ⌝ }
-    ensures { λ x. ⌜ x ≡ age-of (memory-of p (now (area .entry))) r ⌝ }
-{
-    let newest = published_writes(area, p);
-    let number = fields::desk_field(area, p, r, Layout::DESK_NUMBER);
-    if newest < number { 0 } else { newest - number }
-}
-
-// The writes published by now: writes ended, plus 1 if the writer is in phase 7.
-fn published_writes(area: &[u64], p: Layout) -> u64
-    requires { ⌜ Sized p (now area) × SumFits p (now area) ⌝ }
-    ensures { λ x. ⌜ x ≡ published-writes (memory-of p (now (area .entry))) ⌝ }
-{
-    let ended = fields::writer_field(area, p, Layout::WRITES_ENDED);
-    let phase = fields::writer_field(area, p, Layout::WRITER_PHASE);
-    if phase == 7 { ended + 1 } else { ended }
 }

@@ -1,8 +1,8 @@
--- `published_writes` meets its contract: in phase 7 there is room for one more. Assumes nothing.
+-- `age::published_writes` meets its contract: in phase 7 there is room for one more. Assumes nothing.
 use borrow.Author.Needs.{needs}
-use Rattle.copying.proofs.Copied.{one-more, asleep, awake}
-use Rattle.copying.proofs.published_writes.Statement.{statement}
-use Rattle.copying.proofs.published_writes.Tie as tie
+use Rattle.answer.proofs.Published.{one-more, asleep, awake}
+use Rattle.answer.proofs.age.published_writes.Statement.{statement}
+use Rattle.answer.proofs.age.published_writes.Tie as tie
 
 writer-field-requires : tie.Need-writer-field-requires
 writer-field-requires c κs = search needs
