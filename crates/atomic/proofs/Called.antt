@@ -15,15 +15,14 @@ use Prim.Native.Nat.{ℕ, _<_}
 use native.Mathlib.Omega.{arith}
 use lib.Dec.{lit<}
 use lib.ListN.{length, getD}
-use Rattle.register.proofs.Facts.{every-call, AreaFacts, area-facts, its-plan, whole-area, sound-area}
+use Rattle.register.proofs.Facts.{every-call, AreaFacts, area-facts, its-plan, whole-area, sound-area, unless-all}
 use Rattle.theory.specs.Place.{Store, apply}
 use Rattle.theory.specs.Table.{total, view, store}
 use Rattle.register.specs.Area.{shape-of, readers, is-area, memory, undamaged}
 use Rattle.register.specs.Shape.{Shape, table}
-use Rattle.register.specs.Steps.{Plan, refuse, accept, Move, mover}
-use Rattle.register.specs.Calls.{Answer, refused, carried-out, answered}
+use Rattle.register.specs.Steps.{Plan, refuse, accept, Move, mover, has-call}
+use Rattle.register.specs.Calls.{Answer, refused, carried-out, answered, call-tests}
 use Rattle.atomic.specs.Demands.{Refused}
-use Rattle.theory.proofs.Tests.{if-true}
 use Rattle.theory.proofs.Tables.{view-store, length-store, store-untouched}
 use Rattle.register.proofs.Body.{AllInBody, all-has, head-untouched}
 use Rattle.atomic.proofs.Moves.{Does, by}
@@ -56,11 +55,8 @@ refused-is k a = record { ended = refl; age = refl; area = refl }
 pub refused-keeps : (a : List ℕ) (x : Move) → answered a x .number ≢ 0 → Refused a (answered a x)
 unfolding answered carried-out
 refused-keeps a x =
-    if-true P (is-area a) _ (refused 1 a)
-    (λ e.
-    rw (every-call (shape-of a) x)
-    (if-true P (undamaged a) _ (refused 2 a) (λ f. by-plan (its-plan a x)) (λ f d. refused-is 2 a)))
-    (λ e d. refused-is 1 a)
+    unless-all P (λ i. refused i a) (call-tests a (has-call (shape-of a) x)) _ (λ i d. refused-is i a)
+    (by-plan (its-plan a x))
   where
     P : Answer → Type 0
     P y = y .number ≢ 0 → Refused a y

@@ -13,13 +13,13 @@ use Rattle.theory.specs.Place.{Record}
 use Rattle.theory.specs.Table.{total, view}
 use Rattle.register.specs.Area.{memory, undamaged}
 use Rattle.register.specs.Shape.{table, Shape, in-range, known-form}
-use Rattle.register.specs.Calls.{Answer, refused, fresh, made}
+use Rattle.register.specs.Calls.{Answer, refused, fresh, made, making-tests}
 use Rattle.atomic.specs.Demands.{Refused, Makes}
 use Rattle.theory.proofs.Tests.{true-passes, both, if-true}
 use Rattle.register.specs.Conditions.{KnownForm, InRange, T-of}
 use Rattle.register.specs.Numbers.{by-none, by-later}
 use Rattle.register.proofs.Numbers.{numbers}
-use Rattle.register.proofs.Facts.{range-facts, sound-area}
+use Rattle.register.proofs.Facts.{range-facts, sound-area, unless-all}
 use Rattle.atomic.proofs.Called.{refused-is}
 use Rattle.atomic.proofs.Making.{first-memory, fresh-view, fresh-shape, fresh-area, first-whole}
 
@@ -77,16 +77,8 @@ refused-made : (shape : Shape) (v : Record) (a : List ℕ) → made shape v a .n
     → Refused a (made shape v a)
 unfolding made
 refused-made shape v a =
-    if-true P (known-form (shape .form) && in-range shape) _ (refused 9 a)
-    (λ e.
-    if-true P (eqb (length a) (total (table shape))) _ (refused 10 a)
-    (λ f.
-    if-true P (leb (length v) (shape .c)) _ (refused 4 a) (λ g d. absurd (d refl)) (λ g d. refused-is 4 a))
-    (λ f d. refused-is 10 a))
-    (λ e d. refused-is 9 a)
-  where
-    P : Answer → Type 0
-    P x = x .number ≢ 0 → Refused a x
+    unless-all (λ y. y .number ≢ 0 → Refused a y) (λ i. refused i a) (making-tests shape v a) _
+    (λ i d. refused-is i a) (λ d. absurd (d refl))
 
 pub makes : Makes
 makes =

@@ -2,11 +2,12 @@
 --     known-is, range-is, area-is, undamaged-is, own-is    a test passes exactly if its facts hold
 --     area-facts, whole-area, sound-area         the same one way, as it is mostly used
 --     its-plan, every-call, number-of            the plan of a call, which every form has, and the number that it gives
+--     unless-all                                 what holds of every refusal and of what is behind them
 -- Assumes nothing.
 use mathlib.Core.Path.{_≡_, refl, sym, subst}
 use mathlib.Core.Logic.{_↔_}
 use mathlib.Core.Bool.{true}
-use mathlib.Core.List.{List}
+use mathlib.Core.List.{List, [], _∷_}
 use Prim.Native.Nat.{ℕ}
 use native.Mathlib.Omega.{arith}
 use lib.Dec.{T, eqb, eqb→eq, leb→le, le→leb, ltb→lt, lt→ltb}
@@ -20,8 +21,9 @@ use Rattle.theory.specs.Lists.{all, Each, none, also}
 use Rattle.register.specs.Conditions.{KnownForm, InRange, word, AnArea, Undamaged, Whole}
 use Rattle.register.specs.Calls.{own-tests, is-own}
 use Rattle.register.specs.Numbers.{writer, OwnToShow}
-use Rattle.theory.proofs.Tests.{passed, true-passes, test-passes, all-pass}
-use Rattle.register.specs.Steps.{Plan, refuse, accept, Move, read, write, step, plan, has-call}
+use Rattle.theory.proofs.Tests.{if-true, passed, true-passes, test-passes, all-pass}
+use Rattle.register.specs.Steps.{Refusal, unless, Plan, refuse, accept, Move, read, write, step, plan}
+use Rattle.register.specs.Steps.{has-call}
 use Rattle.register.proofs.Whole.{whole-of, of-whole}
 
 -- ---- test 1 as facts
@@ -52,6 +54,13 @@ sound-area a k e w = passed _ (subst (λ j. T (all (memory-tests j (memory a))))
 -- the plan of a call
 abbrev pub its-plan : List ℕ → Move → Plan
 its-plan a x = plan (shape-of a) (memory a) x
+
+-- what holds of every refusal, and of what is behind them, holds of a list of refusals in front of it
+pub unless-all {ℓ} : {A : Type 0} (P : A → Type ℓ) (refuses : ℕ → A) (l : List Refusal) (x : A)
+    → ((i : ℕ) → P (refuses i)) → P x → P (unless refuses l x)
+unless-all P refuses [] x each rest = rest
+unless-all P refuses (r ∷ l) x each rest =
+    if-true P (r .test) _ _ (λ e. unless-all P refuses l x each rest) (λ e. each (r .number))
 
 -- every known form has every call
 pub every-call : (k : Shape) (x : Move) → has-call k x ≡ true

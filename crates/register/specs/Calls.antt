@@ -36,13 +36,16 @@ making k v =
 abbrev pub fresh : Shape → Record → List ℕ
 fresh k v = store (table k) (replicate (total (table k)) 0) (making k v)
 
-unfoldable pub made : Shape → Record → List ℕ → Answer
-made k v a =
-    unless (λ i. refused i a)
-    ((known-form (k .form) && in-range k) else 9
+abbrev pub making-tests : Shape → Record → List ℕ → List Refusal
+making-tests k v a =
+    (known-form (k .form) && in-range k) else 9
     ∷ eqb (length a) (total (table k)) else 10
     ∷ leb (length v) (k .c) else 4
-    ∷ [])
+    ∷ []
+
+unfoldable pub made : Shape → Record → List ℕ → Answer
+made k v a =
+    unless (λ i. refused i a) (making-tests k v a)
     (record { number = 0; ended = false; age = 0; area = fresh k v })
 
 -- ---- calls on an existing area

@@ -1,6 +1,6 @@
 -- Run files by their tests: what one that passed has, and what the tests of the code decide. Assumes nothing.
 use mathlib.Core.Path.{_≡_, refl, sym, ap, _∙_}
-use mathlib.Core.Bool.{Bool, true, false, _&&_, and-true, and-assoc}
+use mathlib.Core.Bool.{Bool, true, false, _&&_, and-assoc}
 use mathlib.Core.List.{List, [], _∷_, _++_}
 use Prim.Native.Nat.{ℕ, _+_, _*_}
 use native.Mathlib.Omega.{arith}
@@ -8,6 +8,7 @@ use lib.Dec.{eqb, leb, leb→le, eqb→eq}
 use lib.ListN.{length, getD}
 use Rattle.theory.specs.Lists.{all}
 use Rattle.theory.proofs.Tests.{true-passes, test-passes}
+use Rattle.theory.proofs.Joined.{joined-all, joined}
 use Rattle.runfile.specs.RunFile.{readers, moves, values, header-bytes, file-tests, is-run-file, Written}
 use Rattle.runfile.specs.RunFile.{written}
 use Rattle.runfile.specs.Conditions.{FileFacts}
@@ -46,15 +47,6 @@ move-read b k process kind len p q l =
     rw (e, d, l)
 
 -- ---- lists of tests
-
--- tests as the code joins them, one behind another
-abbrev joined : Bool → List Bool → Bool
-joined t [] = t
-joined t (x ∷ l) = joined (t && x) l
-
-joined-all : (t : Bool) (l : List Bool) → joined t l ≡ all (t ∷ l)
-joined-all t [] = sym (and-true t)
-joined-all t (x ∷ l) = joined-all (t && x) l ∙ and-assoc t x (all l)
 
 all-joined : (l k : List Bool) → all (l ++ k) ≡ all l && all k
 all-joined [] k = refl

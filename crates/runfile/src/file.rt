@@ -41,7 +41,8 @@ fn sizes_pass(h: Header) -> bool
 
 // Whether the moves and the values are few enough, stand where they must and fill the file.
 fn parts_pass(h: Header, length: usize) -> bool
-    ensures { λ r. ⌜ ((b : List ℕ) → h ≡ header-of b → length ≡ List·length b → r ≡ all (part-tests b)) ⌝ }
+    ensures { λ r. ⌜ ((b : List ℕ) → h ≡ header-of b → length ≡ List·length b
+        → r ≡ all (part-tests b)) ⌝ }
 {
     let moves = h.moves as usize;
     let values = h.values as usize;

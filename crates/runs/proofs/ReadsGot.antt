@@ -15,15 +15,15 @@ use lib.Dec.{eqb, leb, ltb, lit<}
 use lib.ListN.{length}
 use borrow.Author.Tests.{eq-eqb, ne-eqb}
 use Rattle.theory.specs.Place.{Record}
-use Rattle.register.specs.Area.{readers as area-readers, shape-of, is-area, undamaged, memory, phase, writer-phase}
-use Rattle.register.specs.Area.{writes-ended, most-writes}
+use Rattle.register.specs.Area.{readers as area-readers, shape-of, memory, phase, writer-phase, writes-ended}
+use Rattle.register.specs.Area.{most-writes}
 use Rattle.register.specs.Steps.{Move, read, write, step, refuse, accept, Plan, sets-phase, begins-write, mover}
-use Rattle.register.specs.Steps.{plan}
-use Rattle.register.specs.Calls.{Answer, refused, carried-out, answered, after}
+use Rattle.register.specs.Steps.{has-call, plan}
+use Rattle.register.specs.Calls.{Answer, refused, carried-out, answered, after, call-tests}
 use Rattle.atomic.specs.Seen.{Accepted, none, then, got, event, events, writer-deed}
 use Rattle.theory.specs.History.{Got, Deed, read-began, write-began, went-on, looked, published, read-ended}
 use Rattle.theory.specs.History.{write-ended, Event, Read, History, noted, all-noted}
-use Rattle.register.proofs.Facts.{every-call}
+use Rattle.register.proofs.Facts.{unless-all, its-plan}
 use Rattle.theory.proofs.Tests.{if-true}
 use Rattle.atomic.proofs.Intact.{keeps}
 use Rattle.runfile.specs.Bytes.{words-at}
@@ -102,14 +102,8 @@ answer-not-ended : (a : List ℕ) (x : Move) → EndsNothing (plan (shape-of a) 
     → answered a x .ended ≡ false
 unfolding answered
 answer-not-ended a x h =
-    if-true P (is-area a) _ (refused 1 a)
-    (λ e.
-    rw (every-call (shape-of a) x)
-    (if-true P (undamaged a) _ (refused 2 a) (λ d. not-ended (mover (shape-of a) x) a _ h) (λ d. refl)))
-    (λ e. refl)
-  where
-    P : Answer → Type 0
-    P y = y .ended ≡ false
+    unless-all (λ y. y .ended ≡ false) (λ i. refused i a) (call-tests a (has-call (shape-of a) x)) _ (λ i. refl)
+    (not-ended (mover (shape-of a) x) a (its-plan a x) h)
 
 read-not-ended : (a : List ℕ) (r : ℕ) → answered a (read r) .ended ≡ false
 read-not-ended a r =

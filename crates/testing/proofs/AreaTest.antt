@@ -14,7 +14,7 @@ use Rattle.register.proofs.Facts.{area-facts}
 use Rattle.area.specs.declared.Layout.{Layout}
 use Rattle.area.specs.Words.{its-shape, layout-of, Sized, memory-of}
 use Rattle.area.proofs.Sizes.{laid-of}
-use Rattle.area.proofs.Joined.{five}
+use Rattle.theory.proofs.Joined.{five}
 use Rattle.area.proofs.Taken.{not-taken}
 use Rattle.testing.specs.Test.{fit-tests}
 

@@ -10,7 +10,7 @@ use Rattle.register.specs.Area.{memory-tests, current, word-sound, slot-sound, 
 use Rattle.register.specs.Area.{r-end, size, phase, last, pos, len, finished, most-writes, writer-phase, last-slot}
 use Rattle.register.specs.Area.{in-hand, writer-pos, writer-len, old-word, writes-ended}
 use Rattle.register.specs.Shape.{Shape, limit}
-use Rattle.area.proofs.Joined.{three, six, nine}
+use Rattle.theory.proofs.Joined.{three, six, nine}
 
 module _ (k : Shape) (m : Memory) where
   -- ---- the parts, by the numbers read

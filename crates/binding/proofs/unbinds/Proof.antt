@@ -1,4 +1,5 @@
 -- `unbinds` meets its contract: the slot is the area's, and each way through has its law. Assumes nothing.
+use native.Mathlib.Nat.{le-of-lt}
 use borrow.Author.Needs.{needs}
 use Rattle.area.specs.Words.{memory-of}
 use Rattle.answer.proofs.Stored.{still-sized, bound-slot}
@@ -28,7 +29,7 @@ returns c =
     let start = slot .before .before .before in
     let m = memory-of (start .args .p) (start .args .area .now) in
     all-gone (start .args .p) (start .args .r) (start .args .area .now) m (start .pre .0 .sized .laid)
-    (slot .desk-field .ensures) (gone .slot-field .ensures) (full .if1 .taken) (c .refusal .ensures)
+    (slot .desk-field .ensures) (gone .slot-field .ensures) (search (le-of-lt, full .if1 .taken)) (c .refusal .ensures)
 
 add-set-slot-field : tie.Need-add-set-slot-field
 add-set-slot-field c = search needs

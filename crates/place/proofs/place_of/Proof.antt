@@ -4,7 +4,7 @@ use mathlib.Core.Path.{_≡_, sym, _∙_}
 use mathlib.Core.Bool.{true}
 use native.Mathlib.Omega.{arith}
 use Rattle.register.specs.Calls.{is-own}
-use Rattle.area.proofs.Sizes.{in-desk}
+use Rattle.area.proofs.Sizes.{in-desk, desk-wide}
 use Rattle.area.proofs.Asked.{was-no, was-yes}
 use Rattle.testing.specs.Test.{test-number}
 use Rattle.testing.proofs.AreaTest.{sized}
@@ -61,7 +61,7 @@ returns-2 c =
 desk-word-requires : tie.Need-desk-word-requires
 desk-word-requires c κs =
     let o = facts c in
-    (o .sized .laid, o .exists, omega (arith, in-desk (o .sized .laid) 0 (o .words) .fits))
+    (o .sized .laid, o .exists, omega (arith, in-desk (o .sized .laid) 0 (o .words) .fits, desk-wide (o .sized .laid)))
 
 desk-field-requires : tie.Need-desk-field-requires
 desk-field-requires c κs = let o = facts (c .before) in (o .sized, o .exists, omega arith)

@@ -1,5 +1,5 @@
 -- `header::known` meets its contract. Assumes nothing.
-use Rattle.area.proofs.Joined.{four}
+use Rattle.theory.proofs.Joined.{four}
 use Rattle.area.proofs.header.known.Statement.{statement}
 use Rattle.area.proofs.header.known.Tie as tie
 

@@ -2,14 +2,14 @@
 use mathlib.Core.Bool.{Bool, _&&_, and-true, and-assoc}
 use mathlib.Core.Path.{_≡_, sym, _∙_}
 use mathlib.Core.List.{List, [], _∷_}
 use Rattle.theory.specs.Lists.{all}
 
 -- a test, and those of a list, each joined to what stands before it
-abbrev joined : Bool → List Bool → Bool
+abbrev pub joined : Bool → List Bool → Bool
 joined a [] = a
 joined a (b ∷ l) = joined (a && b) l
 
-joined-all : (a : Bool) (l : List Bool) → joined a l ≡ all (a ∷ l)
+pub joined-all : (a : Bool) (l : List Bool) → joined a l ≡ all (a ∷ l)
 joined-all a [] = sym (and-true a)
 joined-all a (b ∷ l) = joined-all (a && b) l ∙ and-assoc a b (all l)
 
