@@ -9,6 +9,7 @@ use mathlib.Core.List.{List, [], _∷_, _++_}
 use Prim.Native.Nat.{ℕ, _+_, _≤_, _<_}
 use native.Mathlib.Numerals.{add-one}
 use borrow.Author.Tests.{eq-eqb, ne-eqb, lt-ltb, le-ltb}
+use native.Mathlib.Omega.{arith}
 use Rattle.theory.specs.Place.{Memory, _≔_}
 use Rattle.register.specs.Area.{current, index, counter, r-end, last}
 use Rattle.register.specs.Steps.{sets-phase, reader-1, reader-2, reader-3}
@@ -18,6 +19,10 @@ use Rattle.area.proofs.Sizes.{limit-is}
 use Rattle.answer.specs.declared.Answer.{Answer as Returned}
 use Rattle.answer.specs.Carried.{whole, carried}
 use Rattle.answer.proofs.Stored.{then, returned, plan-refuses, plan-accepts}
+
+-- a count within the limit, and 1, fit into a word
+pub one-more : {p : Layout} {g : ℕ} → Laid p → g ≤ p .limit → g + 1 < 18446744073709551616
+one-more l h = omega (arith, limit-is l, l .few-readers, h)
 
 module _ (p : Layout) (r : ℕ) (a : List ℕ) (m : Memory) where
   -- ---- step 1

@@ -64,8 +64,8 @@ age-elsewhere a x =
 making-quiet : (k : Shape) (v : Record) (a : List ℕ) → (made k v a .ended ≡ false) × (made k v a .age ≡ 0)
 unfolding made
 making-quiet k v a =
-    unless-all (λ y. (y .ended ≡ false) × (y .age ≡ 0)) (λ i. refused i a) (making-tests k v a) _ (λ i. (refl, refl))
-    (refl, refl)
+    unless-all (λ y. (y .ended ≡ false) × (y .age ≡ 0)) (λ i. refused i a) (making-tests k v a) _
+    (λ i. (refl, refl)) (refl, refl)
 
 pub answers : Answers
 answers = record { makes = making-quiet; ages = age-elsewhere; shows = shows }

@@ -3,7 +3,7 @@ use native.Mathlib.Nat.{le-of-lt}
 use borrow.Author.Needs.{needs}
 use Rattle.area.specs.Words.{memory-of}
 use Rattle.answer.proofs.Stored.{still-sized, bound-slot}
-use Rattle.binding.proofs.Binding.{all-gone, unbound}
+use Rattle.binding.proofs.Binding.{all-gone, unbound, one-more}
 use Rattle.binding.proofs.unbinds.Statement.{statement}
 use Rattle.binding.proofs.unbinds.Tie as tie
 
@@ -21,6 +21,7 @@ refusal-requires c κs = search needs
 same-length : tie.Need-same-length
 same-length c = search needs
 
+-- by `le-of-lt` a refusal above the limit alone is right here too: what it lets through is refused at `returns-2`
 returns : tie.Need-returns
 returns c =
     let full = c .before in
@@ -32,7 +33,9 @@ returns c =
     (slot .desk-field .ensures) (gone .slot-field .ensures) (search (le-of-lt, full .if1 .taken)) (c .refusal .ensures)
 
 add-set-slot-field : tie.Need-add-set-slot-field
-add-set-slot-field c = search needs
+add-set-slot-field c =
+    let start = c .before .before .before .before .before .before in
+    record { fits = one-more (start .pre .0 .sized .laid) (search (le-of-lt, c .before .if1 .left)) }
 
 set-slot-field-requires : tie.Need-set-slot-field-requires
 set-slot-field-requires c κs =
