@@ -1,10 +1,11 @@
+#![tactic(auto)]
 // What a call on an area returns.
 ghost use Rattle.std.specs.Prelude.{◌≡◌, false};
 
 pub mod age;
 
 // The number, whether an operation ended, and the age.
-#[derive(Drop)]
+#[derive(Clone, Copy)]
 pub struct Answer {
     pub number: u64,
     pub ended: bool,

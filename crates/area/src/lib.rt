@@ -1,3 +1,4 @@
+#![tactic(auto)]
 // The area of document 01: where each word stands, worked out in one place, and the reads and stores of one word.
 ghost use Rattle.std.specs.Prelude.{◌≡◌, ◌+◌, ◌≤◌, ◌<◌};
 ghost use Rattle.theory.specs.Table.{total};
@@ -12,7 +13,7 @@ pub mod stores;
 // The shape of an area, for n readers and records of at most c words, and all that depends on it: the limit of
 // r_start, r_end and the counters; where its parts begin; the words of a reader's desk, and where the record that it
 // keeps begins in it; the words of all.
-#[derive(Drop)]
+#[derive(Clone, Copy)]
 pub struct Layout {
     pub form: u64,
     pub n: usize,

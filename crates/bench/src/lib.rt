@@ -1,3 +1,4 @@
+#![tactic(auto)]
 // The bench: the text of a run file's run, on any bytes.
 pub mod printing;
 pub mod sizes;

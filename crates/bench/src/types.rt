@@ -2,7 +2,7 @@
 use tally::Tally;
 
 // Where the text ends, how many values are used up, and the tally.
-#[derive(Drop)]
+#[derive(Clone, Copy)]
 pub struct Progress {
     pub end: usize,
     pub used: u64,

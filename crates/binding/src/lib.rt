@@ -1,3 +1,4 @@
+#![tactic(auto)]
 // Steps 1 to 3 of a reader: it leaves the slot that it is bound to and binds the current one, or stays.
 ghost use Rattle.std.specs.Prelude.{◌≡◌, ◌<◌};
 ghost use Rattle.register.specs.Steps.{reader_1, reader_2, reader_3};

@@ -1,3 +1,4 @@
+#![tactic(auto)]
 // The calls of the board for C and Rust. Each takes any words, any process and any record, and asks nothing of its
 // caller but memory that is its own. Each is equal to a definition: making, the begins and a step to those of
 // `register`, as the calls of `board` are, `board_show` to one of `place`, and `board_words` to one of this crate.
@@ -15,7 +16,7 @@ use place::RecordPlace;
 
 // What a call returns: its number, 1 if an operation ended or else 0, and the age.
 #[repr(C)]
-#[derive(Drop)]
+#[derive(Clone, Copy)]
 pub struct BoardAnswer {
     pub number: u64,
     pub ended: u64,

@@ -1,3 +1,4 @@
+#![tactic(auto)]
 // Plays run files and compares each text with the expected one, byte by byte. The arguments name a run file, its
 // text, the next run file, its text, and so on.
 ghost use Rattle.std.specs.Prelude.{◌*◌, ◌≤◌};

@@ -1,3 +1,4 @@
+#![tactic(auto)]
 // Steps 4 and 5 of a reader: it takes size and write number of the slot that it bound, copies the words, and finishes.
 ghost use Rattle.std.specs.Prelude.{◌≡◌, true, ◌<◌};
 ghost use Rattle.register.specs.Area.{phase};

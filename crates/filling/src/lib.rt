@@ -1,3 +1,4 @@
+#![tactic(auto)]
 // Steps 1 to 3 of the writer: it looks for a free slot, and fills it with the record, its write number and its size.
 ghost use Rattle.std.specs.Prelude.{◌≡◌, ◌≢◌, false};
 ghost use Rattle.register.specs.Area.{writer_phase};

@@ -1,3 +1,4 @@
+#![tactic(auto)]
 // What making takes, and the words of a fresh area (I1): all 0, and then the header and the starting record.
 ghost use Rattle.std.specs.Prelude.{◌≡◌, ◌≤◌, length, replicate};
 ghost use Rattle.register.specs.Shape.{shape};

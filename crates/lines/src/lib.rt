@@ -1,3 +1,4 @@
+#![tactic(auto)]
 // The lines that the bench prints, each put behind the text that is there.
 ghost use Rattle.std.specs.Prelude.{[], ◌∷◌, ◌++◌, map, ◌≡◌};
 ghost use Rattle.register.specs.Area.{current, memory};

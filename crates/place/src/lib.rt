@@ -1,3 +1,4 @@
+#![tactic(auto)]
 // The place of a reader's record in any words: what the calls that show a record stand on.
 ghost use Rattle.std.specs.Prelude.{◌≡◌};
 ghost use Rattle.theory.specs.Lists.{all};
@@ -8,7 +9,7 @@ use area::{Layout, fields, header};
 
 // Where a reader's record stands: yes is 1, and it is the len words of the area from at on; or all three are 0.
 #[repr(C)]
-#[derive(Drop)]
+#[derive(Clone, Copy)]
 pub struct RecordPlace {
     pub yes: u64,
     pub at: u64,

@@ -1,3 +1,4 @@
+#![tactic(auto)]
 // The bench: reads a run file from standard input and prints what its run did. All that matters is in `bench`.
 use bench::sizes;
 

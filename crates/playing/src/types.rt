@@ -1,7 +1,7 @@
 // What a move came to, by value.
 
 // The call's number, whether an operation ended, the age, and how many values are used up then.
-#[derive(Drop)]
+#[derive(Clone, Copy)]
 pub struct Played {
     pub number: u64,
     pub ended: bool,

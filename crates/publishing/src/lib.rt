@@ -1,3 +1,4 @@
+#![tactic(auto)]
 // Steps 4 to 7 of the writer: it clears the counters of the slot in hand, publishes it, and freezes the old slot's.
 ghost use Rattle.std.specs.Prelude.{◌≡◌, ◌≢◌, true, false};
 ghost use Rattle.register.specs.Area.{writer_phase};

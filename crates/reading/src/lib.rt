@@ -1,3 +1,4 @@
+#![tactic(auto)]
 // A begin of a read, and one step of a reader by its phase.
 ghost use Rattle.std.specs.Prelude.{◌≡◌, ◌<◌};
 ghost use Rattle.register.specs.Steps.{read_begins, reader_step};

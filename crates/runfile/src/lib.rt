@@ -1,3 +1,4 @@
+#![tactic(auto)]
 // Run files: what one is, its header, its moves one by one and its values, on any bytes.
 mod bytes;
 pub mod file;

@@ -2,7 +2,7 @@
 
 // The counts and offsets of a header: N, C, the starting length, the moves and where they begin, the values and where
 // they begin.
-#[derive(Drop)]
+#[derive(Clone, Copy)]
 pub struct Header {
     pub n: u32,
     pub c: u32,
@@ -33,7 +33,7 @@ impl Header {
 }
 
 // A move as its four bytes have it.
-#[derive(Drop)]
+#[derive(Clone, Copy)]
 pub struct Written {
     pub process: u64,
     pub kind: u64,
@@ -41,7 +41,7 @@ pub struct Written {
 }
 
 // What a move asks for.
-#[derive(Drop)]
+#[derive(Clone, Copy)]
 pub enum Asked {
     // It is malformed.
     Nothing,
@@ -50,7 +50,7 @@ pub enum Asked {
 }
 
 // A call that a move asks for.
-#[derive(Drop)]
+#[derive(Clone, Copy)]
 pub enum Call {
     // A begin of a write of so many values.
     Values(u64),

@@ -1,3 +1,4 @@
+#![tactic(auto)]
 // Runs the small runs of document 01 that are not proved of the definitions, and those of document 02's requests, on
 // the calls of `board`, and prints each answer: its number, then "ended" and the age where an operation ended.
 use answer::Answer;

@@ -1,9 +1,10 @@
+#![tactic(auto)]
 // The tally of a run, brought up to date after each move.
 ghost use Rattle.std.specs.Prelude.{◌≡◌, max};
 ghost use Rattle.tally.specs.Tally.{counted, as_tally, Room};
 
 // Accepted moves, refused moves, greatest age.
-#[derive(Drop)]
+#[derive(Clone, Copy)]
 pub struct Tally {
     pub accepted: u64,
     pub refusals: u64,

@@ -1,3 +1,4 @@
+#![tactic(auto)]
 // The test of an area, which every call makes first. Test 1: whether words are an area. Test 2, in `sound`: whether it
 // is undamaged.
 ghost use Rattle.std.specs.Prelude.{◌≡◌, ◌≤◌, length};

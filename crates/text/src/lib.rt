@@ -1,3 +1,4 @@
+#![tactic(auto)]
 // A text that grows in lent bytes. What finds no room is left out; nothing outside the bytes is touched.
 ghost use Rattle.std.specs.Prelude.{[], ◌∷◌, map, ◌≡◌};
 ghost use Rattle.text.specs.Lines.{blank, decimal, behind_blanks, same_text};

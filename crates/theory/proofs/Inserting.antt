@@ -96,7 +96,7 @@ module _ {first : Record} where
   past_newest put (with_write {w = w} {line = line} a b c rest) =
       goes_behind (writing w) (λ l. with_write a b c) (put line rest)
 
-  put_in : {latest back : ℕ} {writes : List Write} (x : Read) → x.begin ≤ x.end → x.begin ≤ latest
+  put_in : (x : Read) {latest back : ℕ} {writes : List Write} → x.begin ≤ x.end → x.begin ≤ latest
       → Placed first x.begin x.end x.gets.shows back writes → back + x.gets.number ≡ length writes
       → (line : List Operation)
       → Lined first x.end latest writes line → Arranged first x.end latest writes (reading x ∷ line)
@@ -112,7 +112,7 @@ module _ {first : Record} where
   writes_lined (one_write a b c rest) = with_write c a b (writes_lined rest)
 
   -- all reads put in, the one that ended first before the others
-  pub all_put_in : {t latest : ℕ} {writes : List Write} {reads : List Read} → Apart latest writes → t ≤ latest
+  pub all_put_in : {writes : List Write} {t latest : ℕ} {reads : List Read} → Apart latest writes → t ≤ latest
       → AllPlaced first writes t reads
       → Arranged first t latest writes (map reading reads ++ map writing writes)
   all_put_in {writes = writes} apart h no_reads =

@@ -51,12 +51,14 @@ ahead moment a b c r = next moment (le_refl moment) b c (sooner a r)
 -- nothing in it ended before the soonest moment
 none_ended : {soonest i : ℕ} {x : Operation} {l : List Operation} → Rising soonest l → At x l i
     → soonest ≤ ended x
+none_ended no_more p = elim p [ ]
 none_ended (next moment a b c rest) here = le_trans a c
 none_ended (next moment a b c rest) (behind p) = le_trans a (none_ended rest p)
 
 -- what ended before another began stands ahead of it
 pub in_order : {soonest i j : ℕ} {x y : Operation} {l : List Operation} → Rising soonest l → At x l i → At y l j
     → ended x < began y → i < j
+in_order no_more p q h = elim p [ ]
 in_order (next moment a b c rest) here here h = absurd (omega arith)
 in_order (next moment a b c rest) here (behind q) h = suc-le-suc zero-le
 in_order (next moment a b c rest) (behind p) here h = absurd (omega (arith, none_ended rest p))

@@ -1,3 +1,4 @@
+#![tactic(auto)]
 // A begin of a write, and one step of the writer by its phase.
 ghost use Rattle.std.specs.Prelude.{◌≡◌, ◌≤◌, length};
 ghost use Rattle.theory.specs.Place.{copied};
