@@ -26,7 +26,7 @@ use Rattle.atomic.proofs.StepCounts.{few_early, few_late}
 use Rattle.atomic.proofs.Promise.{Good, whole, guarded, run_ends_good}
 
 -- a read shows the record of the write that has its number
-placed_numbered : {first : Record} {begin end back : ℕ} {v : Record} {writes : List Write} (n : ℕ)
+placed_numbered : {first : Record} {begin end : ℕ} {v : Record} {back : ℕ} {writes : List Write} (n : ℕ)
     → Placed first begin end v back writes → back + n ≡ length writes → v ≡ record_of first writes n
 placed_numbered n (at_start e) q = e
 placed_numbered n (at_newest {writes = writes} p e) q = rw (eq-eqb n (suc (length writes)) (omega arith)) e

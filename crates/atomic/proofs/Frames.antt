@@ -112,7 +112,7 @@ pub record ReadEnded (m m' : Memory) (r : ℕ) (g : Got) : Type 0 where
 abbrev pub ReaderSeen : Memory → Memory → ℕ → Deed → Type 0
 ReaderSeen m m' r = OfReader (m' (phase r) ≢ 0) (ReadEnded m m' r)
 
-pub reader_seen : {shape : Shape} {m m' : Memory} {r : ℕ} {d : Deed} → ReaderDoes shape m r d m'
+pub reader_seen : {shape : Shape} {m : Memory} {r : ℕ} {d : Deed} {m' : Memory} → ReaderDoes shape m r d m'
     → ReaderSeen m m' r d
 reader_seen {r = r} (Moves.read_starts e) = begins_read (rw (eqb_same r) (λ z. omega arith))
 reader_seen {r = r} (Moves.finds_same e x) = goes_on (rw (eqb_same r) (λ z. omega arith))
