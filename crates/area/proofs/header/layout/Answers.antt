@@ -1,6 +1,6 @@
 -- `header::layout` meets its contract: an area has a header, and its N and C are in range. Assumes nothing.
 use Rattle.std.proofs.Common.{arith}
-use Rattle.register.proofs.Facts.{AreaFacts, area_facts}
+use Rattle.register.proofs.Facts.{area_facts}
 use Rattle.area.proofs.header.layout.Goals as goal
 
 pub bounds-area-1 : goal.bounds-area-1
