@@ -1,4 +1,5 @@
--- `sound::desks_sound` meets its contract. Assumes nothing.
+-- `sound::desks_sound` meets its contract: a desk that fails, fails the whole; behind one that passes, what is left
+-- to test tells the same. Assumes nothing.
 use Rattle.std.proofs.Common.{sym, ◌∙◌}
 use Rattle.testing.proofs.Runs.{one_fails, one_passes}
 use Rattle.testing.proofs.sound.desks_sound.Goals as goal
