@@ -1,20 +1,12 @@
 -- A test of each number of a range, made one by one from the front. Assumes nothing.
 use mathlib.Core.Bool.{Bool, true, false}
 use mathlib.Core.Path.{◌≡◌, ap, sym, ◌∙◌}
-use Prim.Native.Nat.{ℕ, suc, ◌+◌, ◌-◌, ◌≤◌, ◌<◌}
+use Prim.Native.Nat.{ℕ, suc, ◌+◌, ◌-◌, ◌<◌}
 use native.Mathlib.Numerals.{add-one}
 use native.Mathlib.Omega.{arith}
 use Rattle.theory.specs.Lists.{every}
 
 module _ (test : ℕ → Bool) (k : ℕ) where
-  -- what is left at the start is the whole
-  pub whole_left : every (k - 0) 0 test ≡ every k 0 test
-  whole_left = let e : k - 0 ≡ k = omega arith in ap (λ j. every j 0 test) e
-
-  -- behind the last number nothing is left
-  pub none_left : (i : ℕ) → k ≤ i → every (k - i) i test ≡ true
-  none_left i h = let e : k - i ≡ 0 = omega arith in rw e
-
   -- number i, and what is left behind it
   next : (i : ℕ) → i < k → every (k - i) i test ≡ every (suc (k - (i + 1))) i test
   next i h = let e : k - i ≡ suc (k - (i + 1)) = omega arith in ap (λ j. every j i test) e

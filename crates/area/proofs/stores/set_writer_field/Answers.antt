@@ -1,0 +1,10 @@
+-- `stores::set_writer_field` meets its contract: what is set is that field of the writer's desk. Assumes nothing.
+use Rattle.std.proofs.Common.{arith}
+use Rattle.area.specs.Words.{its_shape}
+use Rattle.area.proofs.Words.{writer_field_set}
+use Rattle.area.proofs.stores.set_writer_field.Goals as goal
+
+pub returns : goal.returns
+returns c =
+    let b = c.args in
+    writer_field_set (its_shape b.p) b.area.now b.v b.f (omega arith) c.writer_word-i.ensures.0
