@@ -17,7 +17,7 @@ use Rattle.register.specs.Steps
 use Rattle.register.specs.Steps.{Plan, refuse, accept, read_begins, write_begins, Move, read, write, step, mover}
 use Rattle.register.specs.Calls.{carried_out, answered}
 use Rattle.theory.specs.History.{Write, History}
-use Rattle.atomic.specs.Demands.{told, NeverStuck, record_of, Ends}
+use Rattle.atomic.specs.Demands.{NeverStuck, record_of, Ends}
 use Rattle.theory.proofs.Places.{row, row_length}
 use Rattle.theory.proofs.Placed.{Placed, at_start, at_newest, further_back, Where}
 use Rattle.register.proofs.Facts.{number_of, every_call, its_plan}

@@ -20,7 +20,7 @@ use Rattle.register.specs.Area.{shape_of, area_tests, is_area, undamaged, memory
 use Rattle.theory.specs.Lists.{all, Each, none, also}
 use Rattle.register.specs.Conditions.{KnownForm, InRange, word, AnArea, Undamaged, Whole}
 use Rattle.register.specs.Calls.{own_tests, is_own}
-use Rattle.register.specs.Numbers.{writer, OwnToShow}
+use Rattle.register.specs.Numbers.{OwnToShow}
 use Rattle.theory.proofs.Tests.{if_true, passed, true_passes, test_passes, all_pass}
 use Rattle.register.specs.Steps.{Refusal, unless, Plan, refuse, accept, Move, read, write, step, plan}
 use Rattle.register.specs.Steps.{has_call}
