@@ -12,6 +12,7 @@ pub struct Tally {
 }
 
 // The tally with one more move, answered with this number and age.
+#[tactic(auto, unfolding(crate::specs::Tally::counted))]
 pub fn counted(t: Tally, number: u64, age: u64) -> Tally
     requires { Room t }
     ensures { as_tally result ≡ counted (as_tally t) number age }

@@ -18,8 +18,7 @@ pub fn put(out: &mut [u8], at: usize, byte: u8) -> usize
 
 // All of these bytes, one behind another.
 pub fn put_all(out: &mut [u8], at: usize, bytes: &[u8]) -> usize
-    ensures { sheet out.new result
-        ≡ sheet_put (sheet out.old at) bytes.now }
+    ensures { sheet out.new result ≡ sheet_put (sheet out.old at) bytes.now }
 {
     let mut end = end_within(out, at);
     let mut i = 0;
@@ -48,8 +47,7 @@ pub fn put_number(out: &mut [u8], at: usize, n: u64) -> usize
 
 // A blank, and a number in decimal.
 pub fn put_field(out: &mut [u8], at: usize, n: u64) -> usize
-    ensures { sheet out.new result
-        ≡ sheet_put (sheet out.old at) (blank ∷ decimal n) }
+    ensures { sheet out.new result ≡ sheet_put (sheet out.old at) (blank ∷ decimal n) }
 {
     let end = put(out, at, b' ');
     put_number(out, end, n)
@@ -57,8 +55,7 @@ pub fn put_field(out: &mut [u8], at: usize, n: u64) -> usize
 
 // Each of these words behind a blank, in decimal.
 pub fn put_fields(out: &mut [u8], at: usize, words: &[u64]) -> usize
-    ensures { sheet out.new result
-        ≡ sheet_put (sheet out.old at) (behind_blanks (map decimal words.now)) }
+    ensures { sheet out.new result ≡ sheet_put (sheet out.old at) (behind_blanks (map decimal words.now)) }
 {
     let mut end = end_within(out, at);
     let mut i = 0;

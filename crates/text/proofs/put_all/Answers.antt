@@ -1,0 +1,12 @@
+-- `text::put_all` meets its contract: the bytes go in one by one. Assumes nothing.
+use Rattle.text.proofs.Filling.{bytes_in_pieces, filling_none, filling_more, filling_done}
+use Rattle.text.proofs.put_all.Goals as goal
+
+pub loop-i-init : goal.loop-i-init
+loop-i-init c = filling_none _ _ _ _ c.end_within-end.ensures
+
+pub loop-i-preserved : goal.loop-i-preserved
+loop-i-preserved c = filling_more c.loop-i.invariant c.loop-i-test.true c.put-end.ensures
+
+pub returns : goal.returns
+returns c = filling_done c.loop-i.invariant (bytes_in_pieces _) c.loop-i-test.false
