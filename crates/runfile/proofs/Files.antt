@@ -1,20 +1,16 @@
--- Run files by their tests: what one that passed has, and what the tests of the code decide. Assumes nothing.
+-- Run files by their tests: what one that passed has, and that the tests of the code make up the whole test.
+-- Assumes nothing.
 use mathlib.Core.Path.{◌≡◌, refl, sym, ap, ◌∙◌}
 use mathlib.Core.Bool.{Bool, true, false, ◌&&◌, and_assoc}
 use mathlib.Core.List.{List, [], ◌∷◌, ◌++◌}
-use Prim.Native.Nat.{ℕ, ◌+◌, ◌*◌}
-use native.Mathlib.Omega.{arith}
-use lib.Dec.{eqb, leb, leb→le, eqb→eq}
-use lib.ListN.{length, get_or}
+use Prim.Native.Nat.{ℕ}
+use lib.Dec.{leb, leb→le, eqb→eq}
+use lib.ListN.{length}
 use Rattle.theory.specs.Lists.{all}
 use Rattle.theory.proofs.Tests.{true_passes, test_passes}
-use Rattle.theory.proofs.Joined.{joined_all, joined}
-use Rattle.runfile.specs.RunFile.{readers, moves, values, header_bytes, file_tests, is_run_file, Written}
-use Rattle.runfile.specs.RunFile.{written}
+use Rattle.runfile.specs.RunFile.{header_bytes, file_tests, is_run_file}
 use Rattle.runfile.specs.Conditions.{FileFacts}
-use Rattle.runfile.specs.Bytes.{number_at}
-use Rattle.runfile.specs.Code.{header_of, size_tests, part_tests}
-use Rattle.runfile.specs.declared.types.Header.{Header}
+use Rattle.runfile.specs.Code.{size_tests, part_tests}
 
 -- ---- a file that passed
 
@@ -37,15 +33,6 @@ file_facts b e =
       exact = eqb→eq _ _ (test 11);
     }
 
--- a move from the numbers that were read at its place
-pub move_read : (b : List ℕ) (k process kind len : ℕ) → process ≡ number_at 1 b (header_bytes + 4 * k)
-    → kind ≡ number_at 1 b (header_bytes + 4 * k + 1) → len ≡ number_at 2 b (header_bytes + 4 * k + 2)
-    → ◌≡◌ {A = Written} (record { process = process; kind = kind; len = len }) (written b k)
-move_read b k process kind len p q l =
-    let e : process ≡ get_or b (header_bytes + 4 * k) 0 = omega arith in
-    let d : kind ≡ get_or b (header_bytes + 4 * k + 1) 0 = omega arith in
-    rw (e, d, l)
-
 -- ---- lists of tests
 
 all_joined : (l k : List Bool) → all (l ++ k) ≡ all l && all k
@@ -53,36 +40,9 @@ all_joined [] k = refl
 all_joined (true ∷ l) k = all_joined l k
 all_joined (false ∷ l) k = refl
 
--- ---- the tests of the code, on the header that it has read
+-- ---- the tests of the code
 
--- N, C and the starting length, behind the first test
-abbrev sizes_behind : Header → List Bool
-sizes_behind h = leb h.n 8 ∷ leb 1 h.c ∷ leb h.c 32 ∷ leb h.starting h.c ∷ []
-
--- the moves, the values and their places, behind the first test
-abbrev parts_behind : Header → ℕ → List Bool
-parts_behind h k =
-    eqb h.moves_at header_bytes
-    ∷ leb h.values 1000
-    ∷ leb h.starting h.values
-    ∷ eqb h.values_at (header_bytes + 4 * h.moves)
-    ∷ eqb k (header_bytes + 4 * h.moves + 8 * h.values)
-    ∷ []
-
-module _ (b : List ℕ) (h : Header) (head : h ≡ header_of b) where
-  pub sizes_tested : joined (leb 1 h.n) (sizes_behind h) ≡ all (size_tests b)
-  sizes_tested =
-      ap (λ z. joined (leb 1 z.n) (sizes_behind z)) head
-      ∙ joined_all (leb 1 (readers b)) (sizes_behind (header_of b))
-
-  pub parts_tested : (k : ℕ) → k ≡ length b
-      → joined (leb h.moves 4000) (parts_behind h k) ≡ all (part_tests b)
-  parts_tested k e =
-      ap (λ z. joined (leb z.moves 4000) (parts_behind z k)) head
-      ∙ ap (λ i. joined (leb (moves b) 4000) (parts_behind (header_of b) i)) e
-      ∙ joined_all (leb (moves b) 4000) (parts_behind (header_of b) (length b))
-
--- the whole test
+-- the first, those of `size_tests` and those of `part_tests` make up the whole test
 pub file_tested : (b : List ℕ) (s t : Bool) → s ≡ all (size_tests b) → t ≡ all (part_tests b)
     → leb header_bytes (length b) && s && t ≡ is_run_file b
 unfolding is_run_file
