@@ -27,5 +27,7 @@ pub fn show_one<'r>(area: &'r [u64], reader: u64, default: &'r [u64]) -> &'r [u6
 pub fn show<'a: 'r, 'b: 'r, 'r>(area: &'a [u64], reader: u64, default: &'b [u64]) -> &'r [u64]
     ensures { result.now ≡ shown area.now reader default.now }
 {
-    show_one(area, reader, default)
+    let shown: &'r [u64] = area;
+    let otherwise: &'r [u64] = default;
+    show_one(shown, reader, otherwise)
 }
