@@ -9,7 +9,6 @@ use mathlib.Core.List.{List, [], ◌∷◌, ◌++◌}
 use Prim.Native.Nat.{ℕ, ◌+◌, ◌≤◌, ◌<◌}
 use native.Mathlib.Numerals.{add-one}
 use borrow.Author.Tests.{eq-eqb, ne_eqb, lt-ltb, le-ltb}
-use native.Mathlib.Omega.{arith}
 use Rattle.theory.specs.Place.{Memory, ◌≔◌}
 use Rattle.register.specs.Area.{current, index, counter, r_end, last}
 use Rattle.register.specs.Steps.{sets_phase, reader_1, reader_2, reader_3}
@@ -19,10 +18,6 @@ use Rattle.area.proofs.Sizes.{limit_is}
 use Rattle.answer.specs.declared.Answer.{Answer as Returned}
 use Rattle.answer.specs.Carried.{whole, carried}
 use Rattle.answer.proofs.Stored.{then, returned, plan_refuses, plan_accepts}
-
--- a count within the limit, and 1, fit into a word
-pub one_more : {p : Layout} {g : ℕ} → Laid p → g ≤ p.limit → g + 1 < 18446744073709551616
-one_more l h = omega (arith, limit_is l, l.few_readers, h)
 
 module _ (p : Layout) (r : ℕ) (a : List ℕ) (m : Memory) where
   -- ---- step 1

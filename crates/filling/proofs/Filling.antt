@@ -1,6 +1,5 @@
 -- Steps 1 to 3 of the writer by each way through their code: its reads and stores are the plan's. Assumes nothing.
 --     copy_done, copy_on                the phase of a copy
---     last_taken, other_free            whether the slot in hand is free
 --     picked, none_free, passed_by      step 1
 --     filled, sized                     steps 2 and 3
 use mathlib.Core.Path.{◌≡◌, sym, ◌∙◌}
@@ -12,8 +11,8 @@ use native.Mathlib.Numerals.{add-one}
 use lib.Dec.{eqb}
 use borrow.Author.Tests.{eq-eqb, ne_eqb}
 use Rattle.theory.specs.Place.{◌≔◌}
-use Rattle.register.specs.Area.{r_start, r_end, size, slot_write_number, contents, writer_phase, last_slot, in_hand}
-use Rattle.register.specs.Area.{writer_pos, writer_len, writes_ended, write_record}
+use Rattle.register.specs.Area.{size, slot_write_number, contents, writer_phase, in_hand, writer_pos, writer_len}
+use Rattle.register.specs.Area.{writes_ended, write_record}
 use Rattle.register.specs.Steps.{accept, looks, free, picks, passes, fills, sizes}
 use Rattle.area.specs.Words.{its_shape, memory_of}
 use Rattle.area.specs.declared.Layout.{Layout}
@@ -31,18 +30,6 @@ module _ {x y phase : ℕ} where
 
 module _ (p : Layout) (a : List ℕ) {hand : ℕ} (hand_is : hand ≡ memory_of p a in_hand) where
   -- ---- step 1
-
-  -- the last slot is not free
-  pub last_taken : {last : ℕ} → last ≡ memory_of p a last_slot → hand ≡ last
-      → false ≡ free (memory_of p a)
-  last_taken last_is same = rw (eq-eqb _ _ (sym hand_is ∙ same ∙ last_is))
-
-  -- another is where its counters are equal
-  pub other_free : {last started gone : ℕ} → last ≡ memory_of p a last_slot
-      → started ≡ memory_of p a (r_start hand) → gone ≡ memory_of p a (r_end hand) → hand ≢ last
-      → eqb started gone ≡ free (memory_of p a)
-  other_free last_is started_is gone_is other =
-      rw (ne_eqb _ _ (λ same. other (hand_is ∙ same ∙ sym last_is)), started_is, gone_is, hand_is)
 
   pub picked : {x : Returned} {is_free : Bool} {len phase : ℕ} {b : List ℕ} → len ≡ memory_of p a writer_len
       → is_free ≡ free (memory_of p a) → is_free ≡ true → phase ≡ cond (eqb len 0) 3 2

@@ -1,13 +1,12 @@
--- Laws of the tests of a reader: each in turn, and what they say once they pass. Assumes nothing.
-use borrow.Author.Tests.{le-ltb, lt-ltb}
+-- Laws of the test of the area and of those of the reader: in turn, and what they say once they pass. Assumes
+-- nothing.
 use mathlib.Core.Path.{◌≡◌, refl, sym}
 use mathlib.Core.Logic.{◌≢◌}
-use mathlib.Core.Bool.{Bool, true, false, ◌&&◌, and-true}
+use mathlib.Core.Bool.{Bool, true, false}
 use mathlib.Core.List.{List}
 use Prim.Native.Nat.{ℕ, ◌≤◌, ◌<◌}
-use lib.Dec.{eqb, ltb→lt}
-use Rattle.theory.specs.Place.{Memory}
-use Rattle.register.specs.Area.{phase, finished, readers, is_area, undamaged, shape_of}
+use lib.Dec.{ltb→lt}
+use Rattle.register.specs.Area.{readers, is_area, undamaged, shape_of}
 use Rattle.theory.specs.Lists.{all}
 use Rattle.register.specs.Calls.{own_tests, is_own}
 use Rattle.register.specs.Conditions.{Whole}
@@ -19,17 +18,6 @@ use Rattle.testing.specs.Test.{test_number}
 use Rattle.testing.proofs.AreaTest.{sized}
 use Rattle.testing.proofs.TestNumber.{both_pass, sound_area}
 use Rattle.place.specs.Places.{rest_tests}
-
--- ---- the tests of the reader
-
--- the reader does not exist
-pub no_reader : (n : ℕ) (m : Memory) (r : ℕ) → n ≤ r → false ≡ all (rest_tests n m r)
-no_reader n m r h = rw (le-ltb r n h)
-
--- it exists, and its phase and its finished tell
-pub reader_rests : (n : ℕ) (m : Memory) (r : ℕ) {x y : ℕ} → r < n → x ≡ m (phase r) → y ≡ m (finished r)
-    → eqb x 0 && eqb y 1 ≡ all (rest_tests n m r)
-reader_rests n m r h e f = rw (lt-ltb r n h, e, f, and-true)
 
 -- ---- the test of the area, and then those of the reader
 

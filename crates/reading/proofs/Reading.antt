@@ -1,12 +1,11 @@
 -- A begin of a read by each way through its code, and a reader's step by its phase. Assumes nothing.
 --     no_reader, busy, begun          the begin
---     in_phase, idle, past_phases     the step
+--     in_phase, idle                  the step
 use mathlib.Core.Path.{◌≡◌, refl}
 use mathlib.Core.Logic.{◌≢◌}
 use mathlib.Core.Bool.{false}
 use mathlib.Core.List.{List, [], ◌∷◌}
 use Prim.Native.Nat.{ℕ, ◌≤◌, ◌<◌}
-use lib.ListN.{get_or-eq_default}
 use borrow.Author.Tests.{eq-eqb, ne_eqb, lt-ltb, le-ltb}
 use Rattle.theory.specs.Place.{Memory}
 use Rattle.register.specs.Area.{phase}
@@ -55,10 +54,3 @@ module _ (p : Layout) (r : ℕ) (a : List ℕ) (m : Memory) where
   pub idle : {f : ℕ} {x : Returned} → f ≡ m (phase r) → f ≡ 0 → x ≡ returned 6 false
       → whole x a ≡ carried p r a (reader_step (its_shape p) m r)
   idle e h g = in_phase e h (plan_refuses p r a (refuse 6) 6 refl g)
-
-  -- a phase that no undamaged area has
-  pub past_phases : {f : ℕ} {x : Returned} → f ≡ m (phase r) → 6 ≤ f → x ≡ returned 2 false
-      → whole x a ≡ carried p r a (reader_step (its_shape p) m r)
-  unfolding reader_step
-  past_phases e h =
-      plan_refuses p r a (reader_step (its_shape p) m r) 2 (rw (← e) (get_or-eq_default plans (refuse 2) h))

@@ -7,25 +7,14 @@ use Prim.Native.Nat.{ℕ, ◌≤◌, ◌<◌}
 use borrow.Author.Tests.{le-leb, lt-leb, eq-eqb, ne_eqb, lt-ltb, le-ltb}
 use lib.ListN.{length}
 use Rattle.register.specs.Shape.{table}
-use Rattle.theory.specs.Place.{Record, ◌≔◌, copied}
-use Rattle.register.specs.Area.{most_writes, writer_phase, in_hand, writer_pos, writer_len, writes_ended}
-use Rattle.register.specs.Area.{write_record}
+use Rattle.theory.specs.Place.{Record, copied}
+use Rattle.register.specs.Area.{most_writes, writer_phase, writes_ended, write_record}
 use Rattle.register.specs.Steps.{begins_write, write_begins, sets_out}
 use Rattle.area.specs.Words.{memory_of, words_after, its_shape}
 use Rattle.area.specs.declared.Layout.{Layout}
 use Rattle.answer.specs.declared.Answer.{Answer as Returned}
 use Rattle.answer.specs.Carried.{whole, carried}
-use Rattle.answer.proofs.Stored.{stored, store_append, returned, refuses, accepts}
-
--- ---- the desk's other words
-
-pub set_out : (p : Layout) (a : List ℕ) (v : Record) {b d e f : List ℕ}
-    → b ≡ stored p a (writer_len ≔ length v) → d ≡ stored p b (in_hand ≔ 0)
-    → e ≡ stored p d (writer_pos ≔ 0) → f ≡ stored p e (writer_phase ≔ 1)
-    → f ≡ words_after p a (sets_out v)
-set_out p a v first second third fourth = rw (fourth, third, second, first)
-
--- ---- the begin
+use Rattle.answer.proofs.Stored.{store_append, returned, refuses, accepts}
 
 module _ (p : Layout) (a : List ℕ) (v : Record) {x : Returned} where
   pub too_long : p.c < length v → x ≡ returned 4 false

@@ -1,12 +1,8 @@
--- The writer's step by its phase. Assumes nothing.
---     in_phase           the step in phase k is the plan for k
---     no_other_phase     no phase is past 7
+-- The writer's step by its phase: the step in phase k is the plan for k. Assumes nothing.
 use mathlib.Core.Path.{◌≡◌, sym, ap, ◌∙◌}
-use mathlib.Core.Logic.{◌≢◌}
 use mathlib.Core.Bool.{true, false}
 use mathlib.Core.List.{List, [], ◌∷◌}
-use Prim.Native.Nat.{ℕ, ◌≤◌}
-use native.Mathlib.Omega.{arith}
+use Prim.Native.Nat.{ℕ}
 use Rattle.theory.specs.Place.{Memory}
 use Rattle.register.specs.Area.{writer_phase}
 use Rattle.register.specs.Steps.{Plan, refuse, accept, at_phase, looks, writer_step, fills, sizes, clears_start}
@@ -38,16 +34,3 @@ unfolding writer_step
 in_phase p a k phase_is here done =
     done ∙ ap (λ j. carried p p.n a (at_phase j (writer_plans (its_shape p) (memory_of p a))))
     (sym here ∙ phase_is)
-
--- no phase is past 7
-past_three : (k : ℕ) → k ≢ 0 → k ≢ 1 → k ≢ 2 → k ≢ 3 → 4 ≤ k
-past_three k d0 d1 d2 d3 = omega arith
-
-not_past_seven : (k : ℕ) → k ≤ 7 → 4 ≤ k → k ≢ 4 → k ≢ 5 → k ≢ 6 → k ≢ 7 → ⊥
-not_past_seven k h l d4 d5 d6 d7 = omega arith
-
-pub no_other_phase : (k : ℕ) → k ≤ 7
-    → (((((((Unit {0} × k ≢ 0) × k ≢ 1) × k ≢ 2) × k ≢ 3) × k ≢ 4) × k ≢ 5) × k ≢ 6) × k ≢ 7
-    → ⊥
-no_other_phase k h ((((((((u, d0), d1), d2), d3), d4), d5), d6), d7) =
-    not_past_seven k h (past_three k d0 d1 d2 d3) d4 d5 d6 d7

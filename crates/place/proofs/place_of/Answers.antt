@@ -30,23 +30,27 @@ rests-requires c = sized _ _ c.layout-p.ensures (both_pass _ (sym c.tested.ensur
 
 pub returns-then-not-rests : goal.returns-then-not-rests
 returns-then-not-rests c =
-    c.nowhere-then-not-rests.ensures
-    ∙ place_busy _ _ c.layout-p.ensures (sym c.tested.ensures ∙ c.if-tested-ne0.false) (sym c.if-not-rests.ensures)
+    let zero = sym c.tested.ensures ∙ c.if-tested-ne0.false in
+    let fails = sym c.rests.ensures ∙ c.if-not-rests.true in
+    c.nowhere-then-not-rests.ensures ∙ place_busy _ _ c.layout-p.ensures zero fails
 
 pub desk_word-at-requires : goal.desk_word-at-requires
 desk_word-at-requires c =
     let zero = sym c.tested.ensures ∙ c.if-tested-ne0.false in
-    let o = facts c.args.area.now c.args.reader c.layout-p.ensures zero (sym c.if-not-rests.ensures) in
+    let passes = sym c.rests.ensures ∙ c.if-not-rests.false in
+    let o = facts c.args.area.now c.args.reader c.layout-p.ensures zero passes in
     (o.sized.laid, o.exists, omega (arith, (in_desk o.sized.laid 0 o.words).fits, desk_wide o.sized.laid))
 
 pub desk_field-len-requires : goal.desk_field-len-requires
 desk_field-len-requires c =
     let zero = sym c.tested.ensures ∙ c.if-tested-ne0.false in
-    let o = facts c.args.area.now c.args.reader c.layout-p.ensures zero (sym c.if-not-rests.ensures) in
+    let passes = sym c.rests.ensures ∙ c.if-not-rests.false in
+    let o = facts c.args.area.now c.args.reader c.layout-p.ensures zero passes in
     (o.sized, o.exists, omega arith)
 
 pub returns : goal.returns
 returns c =
     let zero = sym c.tested.ensures ∙ c.if-tested-ne0.false in
-    place_own _ _ c.layout-p.ensures (rested _ _ c.layout-p.ensures zero (sym c.if-not-rests.ensures))
+    let passes = sym c.rests.ensures ∙ c.if-not-rests.false in
+    place_own _ _ c.layout-p.ensures (rested _ _ c.layout-p.ensures zero passes)
     c.desk_word-at.ensures.0 c.desk_field-len.ensures
