@@ -1,53 +1,28 @@
--- One move of a run file, one law for each way through the code. Assumes nothing.
-use mathlib.Core.Path.{◌≡◌, refl, sym, ap, subst, ◌∙◌}
+-- A begin of a write with the next values of a run file: the first 257 words of a longer record are enough.
+-- Assumes nothing.
+use mathlib.Core.Path.{◌≡◌, refl, sym, ap, ◌∙◌}
 use mathlib.Core.Bool.{Bool, true, false, cond}
 use mathlib.Core.List.{List}
-use Prim.Native.Nat.{ℕ, ◌+◌, ◌-◌, ◌≤◌, ◌<◌, min}
+use Prim.Native.Nat.{ℕ, ◌+◌, ◌<◌, min}
 use native.Mathlib.Decide.{ℕ_discrete}
 use native.Mathlib.Omega.{arith}
-use borrow.Author.Tests.{leb-true, leb-false, le-leb, lt-leb}
-use lib.Dec.{T, eqb, leb}
+use borrow.Author.Tests.{lt-leb}
+use lib.Dec.{eqb, leb}
 use lib.ListN.{length, take, replicate}
 use Rattle.theory.specs.Place.{Record}
 use Rattle.register.specs.Area.{is_area, shape_of}
-use Rattle.register.specs.Steps.{Move, write}
+use Rattle.register.specs.Steps.{write}
 use Rattle.register.specs.Calls.{Answer, answered}
 use Rattle.register.proofs.Facts.{area_facts}
 use Rattle.answer.specs.Carried.{whole}
 use Rattle.answer.specs.declared.Answer.{Answer as Returned}
 use Rattle.runfile.specs.Bytes.{words_at}
-use Rattle.runfile.specs.RunFile.{values, values_for, move}
-use Rattle.runfile.specs.Code.{header_of}
-use Rattle.runfile.specs.declared.types.Header.{Header}
+use Rattle.runfile.specs.RunFile.{values, values_for}
 use Rattle.text.specs.Sheet.{pasted}
 use Rattle.playing.specs.Play.{Outcome, outcome}
 use Rattle.playing.specs.Code.{as_outcome, state, one_too_many}
 use Rattle.playing.specs.declared.types.Played.{Played}
 use Rattle.playing.proofs.Values.{place, words_length, front_words}
-
--- ---- how many values are left
-
--- fewer than are wanted
-pub too_few : (b : List ℕ) (h : Header) (used len : ℕ) → h ≡ header_of b → h.values < len
-    → (false ≡ leb (used + len) (values b)) × (false ≡ true → used + len ≤ 4294967295)
-too_few b h used len e less =
-    (sym (lt-leb (used + len) (values b) (omega (arith, ap (λ z. z.values) e))), λ d. absurd (subst T (sym d) tt))
-
--- what is left decides
-pub left_decides : (b : List ℕ) (h : Header) (used len : ℕ) → h ≡ header_of b → len ≤ h.values
-    → h.values ≤ 4294967295
-    → (leb used (h.values - len) ≡ leb (used + len) (values b))
-    × (leb used (h.values - len) ≡ true → used + len ≤ 4294967295)
-left_decides b h used len e enough small =
-    (go (leb used (h.values - len)) refl, λ d. omega (arith, leb-true used (h.values - len) d))
-  where
-    go : (t : Bool) → leb used (h.values - len) ≡ t → t ≡ leb (used + len) (values b)
-    go true d =
-        sym (le-leb (used + len) (values b)
-        (omega (arith, leb-true used (h.values - len) d, ap (λ z. z.values) e)))
-    go false d =
-        sym (lt-leb (used + len) (values b)
-        (omega (arith, leb-false used (h.values - len) d, ap (λ z. z.values) e)))
 
 -- ---- a begin of a write
 
@@ -88,12 +63,6 @@ cut a b i k len e = go (ℕ_discrete k len)
         (omega (arith, words_length len b i))
 
 module _ (b a : List ℕ) (used len : ℕ) (x : Played) (r : Returned) where
-  -- more values are wanted than are left
-  pub write_13 : leb (used + len) (values b) ≡ false → r ≡ record { number = 13; ended = false; age = 0 }
-      → x ≡ tell r used
-      → as_outcome x a ≡ outcome b (state a used) (values_for len)
-  write_13 h e d = told x r used a {v = used + 0} d (ap (λ z. whole z a) e) (omega arith) ∙ sym (rw h)
-
   -- the next values are written; accepted, they are used up
   pub write_called : (a' l : List ℕ) (k u : ℕ) → leb (used + len) (values b) ≡ true
       → k ≡ min len one_too_many
@@ -109,10 +78,3 @@ module _ (b a : List ℕ) (used len : ℕ) (x : Played) (r : Returned) where
           called
           ∙ ap (λ v. answered a (write v)) (front_words one_too_many k b (place b used) l (omega arith) full)
           ∙ cut a b (place b used) k len short
-
--- ---- the other ways
-
-pub moved : (b a a' : List ℕ) (used : ℕ) (x : Played) (r : Returned) (y : Move)
-    → whole r a' ≡ answered a y → x ≡ tell r used
-    → as_outcome x a' ≡ outcome b (state a used) (move y)
-moved b a a' used x r y e d = told x r used a' d e (omega arith)

@@ -1,6 +1,7 @@
 -- What a run file's run has to do with the demands: it is a run of its accepted calls, the same answers were given
 -- to them, and the tally is theirs. Assumes nothing.
-use Rattle.std.specs.Prelude.{◌≡◌, true, cond, ◌&&◌, List, [], ◌∷◌, ◌++◌, map, reverse, ℕ, zero, suc, ◌+◌, max, eqb, ltb, length}
+use Rattle.std.specs.Prelude.{◌≡◌, true, cond, ◌&&◌, List, [], ◌∷◌, ◌++◌, map, reverse, length}
+use Rattle.std.specs.Prelude.{ℕ, zero, suc, ◌+◌, max, eqb, ltb}
 use Rattle.register.specs.Steps.{Move}
 use Rattle.register.specs.Calls.{Answer, answered}
 use Rattle.theory.specs.History.{Got}
