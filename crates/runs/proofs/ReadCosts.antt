@@ -39,7 +39,7 @@ abbrev pub paid : Memory → ℕ → ℕ
 paid m r = cond (eqb (m (phase r)) 0) 0 (cond (eqb (m (phase r)) 5) (suc (m (pos r))) 1)
 
 -- a move of reader r pays for what it got
-pays_own : {shape : Shape} {m m' : Memory} {r : ℕ} {d : Deed} → ReaderDoes shape m r d m'
+pays_own : {shape : Shape} {m : Memory} {r : ℕ} {m' : Memory} {d : Deed} → ReaderDoes shape m r d m'
     → costs (got_of d) + paid m' r ≤ paid m r + 1
 pays_own {r = r} (moves.read_starts e) = rw (eqb_same r, e) (omega arith)
 pays_own {r = r} (moves.finds_same e x) = rw (eqb_same r, e) (omega arith)
