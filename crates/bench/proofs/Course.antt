@@ -1,5 +1,5 @@
 -- A run as the code goes through it, move by move: what is left of its text makes what all of it makes.
---     course_of, asks_nothing, refusal, decoded   parts of a course; what is malformed; what was decoded
+--     course_of, refusal, decoded                 parts of a course; what is malformed comes to; what was decoded
 --     moved_on, call_on, malformed_on             one move more: any; one that is a call; one that is malformed
 --     counted_up, lines_step                      no count grows by more than one; one line more
 --     Coursing                                    what holds between two moves
@@ -7,7 +7,7 @@
 --     run_put, refused_put, played_put            the whole text, from its parts
 -- Assumes nothing.
 use mathlib.Core.Path.{◌≡◌, refl, sym, ap, ◌∙◌}
-use mathlib.Core.List.{List, [], ◌∷◌, ◌++◌, append_assoc}
+use mathlib.Core.List.{List, ◌++◌, append_assoc}
 use mathlib.Core.Bool.{Bool, true, false}
 use Prim.Native.Nat.{ℕ, suc, ◌+◌, ◌≤◌, ◌<◌}
 use native.Mathlib.Nat.{zero-add}
@@ -15,14 +15,11 @@ use native.Mathlib.Numerals.{add-one}
 use native.Mathlib.Omega.{arith}
 use lib.Dec.{eqb}
 use lib.ListN.{length}
-use types.Run.{OneOf}
-use denote.Enum.Declared.{tag_of}
 use Rattle.runfile.specs.RunFile.{readers, moves, starting_length, is_run_file, written, Asked, nothing, asked}
 use Rattle.runfile.specs.Code.{as_written, as_call, as_asked}
 use Rattle.runfile.specs.declared.types.Call.{Call}
 use Rattle.runfile.specs.declared.types.Asked.{Asked as CodeAsked}
 use Rattle.runfile.specs.declared.types.Asked.TheVariants as variants
-use Rattle.runfile.specs.contracts.types.Asked as asked_type
 use Rattle.runfile.specs.declared.types.Written.{Written as CodeWritten}
 use Rattle.text.specs.Sheet.{Sheet, sheet, put}
 use Rattle.text.proofs.Sheets.{put_twice, then_put}
@@ -36,11 +33,6 @@ use Rattle.playing.specs.declared.types.Played.{Played}
 use Rattle.bench.specs.declared.types.Progress.{Progress}
 
 -- ---- one move
-
--- what is no call is malformed, by its tag
-asks_nothing : (y : CodeAsked) → OneOf (0 ∷ []) (tag_of asked_type.the_type y) → nothing ≡ as_asked y
-asks_nothing variants.Nothing e = refl
-asks_nothing (variants.Call x) e = absurd (omega arith)
 
 -- what a malformed move comes to
 abbrev refusal : ℕ → Played
@@ -91,10 +83,10 @@ module _ (b : List ℕ) (i : ℕ) (a out a' out' : List ℕ) (g r : Progress) (n
   call_on call x e = moved_on (as_call call) x (ap as_asked (sym e))
 
   -- what is no call is refused by 12, and uses up nothing
-  pub malformed_on : OneOf (0 ∷ []) (tag_of asked_type.the_type m) → a ≡ a' → Put (refusal g.used)
+  pub malformed_on : m ≡ variants.Nothing → a ≡ a' → Put (refusal g.used)
       → as_course a' out' r ≡ course_after b i (as_course a out g)
-  malformed_on tag same =
-      moved_on nothing (refusal g.used) (asks_nothing m tag)
+  malformed_on e same =
+      moved_on nothing (refusal g.used) (ap as_asked (sym e))
       (ap (as_outcome (refusal g.used)) (sym same) ∙ ap (λ u. as_outcome (refusal u) a) (omega arith))
 
 -- no count grows by more than one
