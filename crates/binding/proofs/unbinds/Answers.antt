@@ -4,6 +4,7 @@ use Rattle.area.specs.Words.{memory_of}
 use Rattle.binding.proofs.Binding.{all_gone, unbound}
 use Rattle.binding.proofs.unbinds.Goals as goal
 
+-- a refusal above the limit alone is right here too: what it lets through is refused at `returns`
 pub returns-then-gone-limit : goal.returns-then-gone-limit
 returns-then-gone-limit c =
     let m = memory_of c.args.p c.args.area.now in

@@ -5,6 +5,18 @@ use Rattle.answer.proofs.Stored.{still_sized}
 use Rattle.copying.proofs.Copied.{room_copied, copied, copied_all, copied_one}
 use Rattle.copying.proofs.copies.Goals as goal
 
+pub returns-then-next-len : goal.returns-then-next-len
+returns-then-next-len c =
+    copied_all c.args.p c.args.r c.args.area.now (memory_of c.args.p c.args.area.now)
+    c.desk_field-slot.ensures c.desk_field-pos.ensures c.desk_field-len.ensures c.contents_word-word.ensures
+    c.set_read_record.ensures c.set_desk_field.ensures c.if-next-len.true c.finishes.ensures
+
+pub returns : goal.returns
+returns c =
+    copied_one c.args.p c.args.r c.args.area.now (memory_of c.args.p c.args.area.now)
+    c.desk_field-slot.ensures c.desk_field-pos.ensures c.desk_field-len.ensures c.contents_word-word.ensures
+    c.set_read_record.ensures c.set_desk_field.ensures c.if-next-len.false c.accepted.ensures
+
 -- the search finds it too, but not with half its limits
 pub finishes-requires : goal.finishes-requires
 finishes-requires c =
@@ -18,15 +30,3 @@ finishes-requires c =
           c.desk_field-len.ensures c.contents_word-word.ensures c.set_read_record.ensures
           c.set_desk_field.ensures),
     )
-
-pub returns-then-next-len : goal.returns-then-next-len
-returns-then-next-len c =
-    copied_all c.args.p c.args.r c.args.area.now (memory_of c.args.p c.args.area.now)
-    c.desk_field-slot.ensures c.desk_field-pos.ensures c.desk_field-len.ensures c.contents_word-word.ensures
-    c.set_read_record.ensures c.set_desk_field.ensures c.if-next-len.true c.finishes.ensures
-
-pub returns : goal.returns
-returns c =
-    copied_one c.args.p c.args.r c.args.area.now (memory_of c.args.p c.args.area.now)
-    c.desk_field-slot.ensures c.desk_field-pos.ensures c.desk_field-len.ensures c.contents_word-word.ensures
-    c.set_read_record.ensures c.set_desk_field.ensures c.if-next-len.false c.accepted.ensures
