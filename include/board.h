@@ -2,13 +2,13 @@
  * words (C is 1 to 256). The readers are processes 0 to N - 1, the writer is process N. A begin starts a read
  * or a write; each board_step of its process makes one small step of it, until an answer says that it ended.
  *
- * The library is libboard_c.a: `rt staticlib board_c` writes it for x86-64 Linux to target/staticlib, and
- * twin/library for the machine it runs on to twin/target/library. A program is linked by
- *     cc -Iinclude program.c target/staticlib/libboard_c.a
+ * The library is libboard_c.a: `rt lib --cpu x86-64` in crates/board_c writes it for any x86-64 Linux to the
+ * folder out/ there, and twin/library copies it to twin/target/library. A program is linked by
+ *     cc -Iinclude program.c crates/board_c/out/libboard_c.a
  * and of the C library it needs memset alone. It is written in Rattle (crates/board_c) and proved: on any
  * input each call returns, and leaves in every word, what one definition says. That of board_make, of the
- * begins and of board_step stands in crates/register/specs/Calls.antt; board_show is `place-of` of
- * crates/place/specs/Places.antt and board_words is `words-of` of crates/board_c/specs/Sizes.antt, and
+ * begins and of board_step stands in crates/register/specs/Calls.antt; board_show is `place_of` of
+ * crates/place/specs/Places.antt and board_words is `words_of` of crates/board_c/specs/Sizes.antt, and
  * `PlacesAreShown` and `WordsAreMade` (Promises.antt beside each) tie them to what showing hands back and to
  * what making answers. The calls never allocate, never keep a pointer, print nothing, do not panic, and end.
  *

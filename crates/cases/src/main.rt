@@ -5,36 +5,41 @@ ghost use Rattle.std.specs.Prelude.{◌*◌, ◌≤◌};
 ghost use Rattle.io.specs.Counts.{IsPrefixLen};
 
 use bench::sizes;
+use std::io::Read;
+use std::rt::{Env, Files};
+use std::{env, fs};
 
-// A descriptor of the file that argument i names, or a negative number.
-fn opened(i: usize) -> i32 {
+// The file that argument i names, if there is one.
+fn opened<R: Env + Files>(rt: &R, i: usize) -> Option<R::File> {
     let mut path = io::buffer();
-    let length = os::arg(i, &mut path);
-    if os::errno() != 0 {
-        return -1;
-    }
-    os::open_read(&path[..length])
+    let length = rt.arg(i, &mut path).ok()?;
+    let name = str::from_utf8(&path[..length]).ok()?;
+    fs::open(rt, name).ok()
 }
 
 // The bytes of a file, and how many there are.
-fn read_file(fd: i32, buf: &mut [u8]) -> usize
+fn read_file(mut file: impl Read + Drop, buf: &mut [u8]) -> usize
     ensures { IsPrefixLen result buf.new }
 {
-    let count = io::read_full(fd, buf);
-    libc::close(fd);
-    count
+    let mut done = 0;
+    while done < buf.len() {
+        let count = file.read(&mut buf[done..]).unwrap_or(0);
+        if count == 0 {
+            break;
+        }
+        done += count;
+    }
+    done
 }
 
 // Whether both files are there and the text of the first is the second.
-fn holds(run: usize, expected: usize) -> bool {
-    let run_file = opened(run);
-    let text_file = opened(expected);
-    if run_file < 0 {
+fn holds<R: Env + Files>(rt: &R, run: usize, expected: usize) -> bool {
+    let Some(run_file) = opened(rt, run) else {
         return false;
-    }
-    if text_file < 0 {
+    };
+    let Some(text_file) = opened(rt, expected) else {
         return false;
-    }
+    };
     let mut file = [0u8; sizes::FILE];
     let length = read_file(run_file, &mut file);
     let mut wanted = [0u8; sizes::TEXT];
@@ -45,37 +50,38 @@ fn holds(run: usize, expected: usize) -> bool {
 }
 
 // 1 for a case that holds; one that does not is told by its name, and counts 0.
-fn counted(run: usize, expected: usize) -> usize
+fn counted<R: Env + Files>(rt: &R, run: usize, expected: usize) -> usize
     ensures { result ≤ 1 }
 {
-    if holds(run, expected) {
+    if holds(rt, run, expected) {
         return 1;
     }
     let mut path = io::buffer();
-    let length = os::arg(run, &mut path);
+    let length = rt.arg(run, &mut path).unwrap_or(0);
     io::write_all(1, &path[..length]);
     io::write_all(1, b" differs\n");
     0
 }
 
 // How many of so many cases hold.
-fn all(count: usize) -> usize
+fn all<R: Env + Files>(rt: &R, count: usize) -> usize
     requires { 2 * count ≤ 18446744073709551615 }
 {
     let mut held = 0;
     let mut i = 0;
     while i < count {
-        held += counted(2 * i + 1, 2 * i + 2);
+        held += counted(rt, 2 * i + 1, 2 * i + 2);
         i += 1;
     }
     held
 }
 
-fn main() {
-    let count = os::arg_count() / 2;
-    let held = all(count);
+fn main(rt: HostRuntime) -> std::io::Result<()> {
+    let count = env::args(&rt)?.count() / 2;
+    let held = all(&rt, count);
     io::print_decimal(1, held as u64);
     io::write_all(1, b" of ");
     io::print_decimal(1, count as u64);
     io::write_all(1, b" cases hold\n");
+    Ok(())
 }

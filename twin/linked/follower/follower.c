@@ -1,8 +1,7 @@
 /* Follows a trace of the twin (`linked trace`, see src/trace.rs) on standard input: does every deed on
    the exports of libboard_c.a, and after every call compares the answer, every word of the area and
-   the guard words around it with what the trace says. For machines whose Rust cannot link the archive:
-   it is compiled for x86-64 by the kit's clang and run under the kit's emulator. The kit has no
-   headers, so what is used of C's library is declared here. */
+   the guard words around it with what the trace says. It takes no header, the board's neither: what is
+   used of C's library is declared here, so that a compiler without headers builds it for any machine. */
 
 typedef unsigned long word;
 typedef struct { word number, ended, age; } board_answer;
@@ -109,6 +108,6 @@ int main(void) {
         board_answer answer = act(kind, count);
         if (kind <= WORDS) compare(answer);
     }
-    printf("%lu calls: the x86-64 archive gave the twin's answers and words\n", calls);
+    printf("%lu calls: the library gave the twin's answers and words\n", calls);
     return 0;
 }

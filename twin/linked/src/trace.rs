@@ -1,5 +1,5 @@
 //! A trace of sessions: every deed, and after every call what the twin answered and each word that it
-//! changed. `follower/follower.c` does the same deeds on an archive that this program cannot link.
+//! changed. `follower/follower.c` does the same deeds on the library from C.
 //!
 //! A trace is little-endian 64-bit words. A deed is its kind, how many words follow, and those
 //! (`Deed::words`); after a call come three words of the answer, how many words of the area changed, and
