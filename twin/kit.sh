@@ -45,3 +45,10 @@ kit_rt() ( # WHO ROOT CRATE LOG WORDS
         esac
     done
 )
+
+# What rt said of a failure, without what it says of all that is well.
+kit_why() { # LOG
+    local said
+    said=$(grep -E 'error|no proof|not proved|^note|^rt: ' "$1") || said=$(cat "$1")
+    printf '%s\n' "$said" | cut -c 1-200 | sed -n '1,20p' >&2
+}
