@@ -5,9 +5,10 @@ ghost use Rattle.std.specs.Prelude.{◌*◌, ◌≤◌};
 ghost use Rattle.io.specs.Counts.{IsPrefixLen};
 
 use bench::sizes;
+use std::env::FillError;
+use std::fs;
 use std::io::Read;
 use std::rt::{Env, Files};
-use std::{env, fs};
 
 // The file that argument i names, if there is one.
 fn opened<R: Env + Files>(rt: &R, i: usize) -> Option<R::File> {
@@ -76,12 +77,22 @@ fn all<R: Env + Files>(rt: &R, count: usize) -> usize
     held
 }
 
-fn main(rt: HostRuntime) -> std::io::Result<()> {
-    let count = env::args(&rt)?.count() / 2;
+// How many arguments there are, the program's own name among them.
+fn arguments<R: Env>(rt: &R) -> usize {
+    let mut argument = io::buffer();
+    for i in 0..usize::MAX {
+        if let Err(FillError::NotPresent) = rt.arg(i, &mut argument) {
+            return i;
+        }
+    }
+    usize::MAX
+}
+
+fn main(rt: HostRuntime) {
+    let count = arguments(&rt) / 2;
     let held = all(&rt, count);
     io::print_decimal(1, held as u64);
     io::write_all(1, b" of ");
     io::print_decimal(1, count as u64);
     io::write_all(1, b" cases hold\n");
-    Ok(())
 }
