@@ -1,6 +1,7 @@
 -- What is promised: demand 3 with its bounds, that every operation ends, what any call keeps, and the age on any words.
 -- Assumes nothing.
-use Rattle.std.specs.Prelude.{◌≡◌, ◌≢◌, ◌⊎◌, Bool, true, false, cond, not, ◌&&◌, List, [], ◌∷◌, ℕ, suc, ◌+◌, ◌≤◌, ◌<◌, eqb, ltb, leb, length, get_or}
+use Rattle.std.specs.Prelude.{◌≡◌, ◌≢◌, ◌⊎◌, Bool, true, false, cond, not, ◌&&◌, List, [], ◌∷◌, length, get_or}
+use Rattle.std.specs.Prelude.{ℕ, suc, ◌+◌, ◌≤◌, ◌<◌, eqb, ltb, leb}
 use Rattle.theory.specs.Lists.{Each}
 use Rattle.theory.specs.Table.{Untouched, has}
 use Rattle.theory.specs.Place.{Record, Store}

@@ -3,7 +3,7 @@
 --     moved_on, call_on, malformed_on             one move more: any; one that is a call; one that is malformed
 --     counted_up, lines_step                      no count grows by more than one; one line more
 --     Coursing                                    what holds between two moves
---     coursing_none, -room, -more, -done          of no move; room to count one more; after one more; after the last
+--     coursing_none, _room, _more, _done          of no move; room to count one more; after one more; after the last
 --     run_put, refused_put, played_put            the whole text, from its parts
 -- Assumes nothing.
 use mathlib.Core.Path.{◌≡◌, refl, sym, ap, ◌∙◌}

@@ -1,6 +1,6 @@
 -- Rows of a table "given exactly when", one in front of others: the first whose condition holds gives its number.
 --     Says                                          a test fails exactly if a condition holds
---     unless_not, -below, -at-most, -equal          tests, and the conditions that they say
+--     unless_not, _below, _at_most, _equal          tests, and the conditions that they say
 --     row                                           a test in front, and its row in front
 --     passes, holds, nothing_more                   a row that does not hold, one that does, no row: 0
 -- Assumes nothing.

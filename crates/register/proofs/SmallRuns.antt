@@ -79,7 +79,8 @@ paused = (read 0 ∷ replicate 3 (step 0)) ++ written (3 ∷ 4 ∷ []) 9 ++ writ
 abbrev pub small_runs : List Row
 small_runs =
     -- P1
-    row_of (get_or area_p1 3 0 ∷ get_or area_p1 4 0 ∷ get_or area_p1 5 0 ∷ get_or area_p1 6 0 ∷ current_word area_p1 ∷ [])
+    row_of (get_or area_p1 3 0 ∷ get_or area_p1 4 0 ∷ get_or area_p1 5 0 ∷ get_or area_p1 6 0
+    ∷ current_word area_p1 ∷ [])
     (38 ∷ 8 ∷ 23 ∷ 30 ∷ 1 ∷ [])
     -- P2, P3
     ∷ row_of (total (table (shape 1 2 2)) ∷ total (table (shape 1 64 256)) ∷ []) (57 ∷ 34199 ∷ [])

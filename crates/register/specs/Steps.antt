@@ -1,5 +1,6 @@
 -- The steps of readers and writer: the stores of each, named once, and the plan that picks them. Assumes nothing.
-use Rattle.std.specs.Prelude.{Bool, true, false, cond, ◌&&◌, not, List, [], ◌∷◌, ◌++◌, ℕ, suc, ◌*◌, eqb, ltb, leb, length, get_or}
+use Rattle.std.specs.Prelude.{Bool, true, false, cond, ◌&&◌, not, List, [], ◌∷◌, ◌++◌, length, get_or}
+use Rattle.std.specs.Prelude.{ℕ, suc, ◌*◌, eqb, ltb, leb}
 use Rattle.theory.specs.Place.{Record, Memory, Store, ◌≔◌, copied}
 use Rattle.register.specs.Area.{current, index, counter, r_start, r_end, size, slot_write_number, contents}
 use Rattle.register.specs.Area.{phase, last, pos, len, desk_write_number, finished, read_record, writer_phase}

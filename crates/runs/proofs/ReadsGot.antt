@@ -2,7 +2,7 @@
 --     got_of, gots, gets_of                         what a deed, events, reads say that was got
 --     map_joined, noted_got, told_gots              the history of events has the reads that they end
 --     events_joined, same_readers                   one list of calls behind another; an accepted call keeps N
---     EndsNothing, not_ended, answer-, read-, write_not_ended   no begin ends anything
+--     EndsNothing, not_ended, answer_, read_, write_not_ended   no begin ends anything
 --     no_read, quiet, writer_quiet                  what ends no read
 --     step_got, step_gots, Same, write_same, read_same, move_gots   one move, by what it asks for
 -- Assumes nothing.

@@ -1,6 +1,6 @@
 -- A run file's run is the run of its accepted calls: the area, the answers and the tally, so the demands speak of it.
 --     refused_stays, Called, one_call, no_call, by_number, one   one move: one accepted call, or none
---     joined, after-, answers-, accepted_joined, behind          one list of calls behind another
+--     joined, after_, answers_, accepted_joined, behind          one list of calls behind another
 --     whole, whole_got, nothing_paid                             a whole run, and what its reads got
 --     plays_a_run                                                the promise
 --     few_words_read                                             its reads cost no more than its moves
