@@ -1,8 +1,8 @@
 -- Where the words of an area stand, and what a layout of the code says of it. Assumes nothing.
-use Rattle.std.specs.Prelude.{◌≡◌, List, ℕ, ◌+◌, ◌*◌, ◌≤◌, length}
+use Rattle.std.specs.Prelude.{◌≡◌, ◌&&◌, cond, List, ℕ, ◌+◌, ◌*◌, ◌≤◌, length, Option, Some, None}
 use Rattle.theory.specs.Place.{Memory, Store}
 use Rattle.theory.specs.Table.{Table, offset, base, width, total, view, store}
-use Rattle.register.specs.Shape.{Shape, shape, limit, table, slots_at, desks_at, writer_at}
+use Rattle.register.specs.Shape.{Shape, shape, known_form, in_range, limit, table, slots_at, desks_at, writer_at}
 use Rattle.area.specs.declared.Layout.{Layout}
 
 -- where word i of row r of part g stands
@@ -35,6 +35,10 @@ module _ (k : Shape) where
         writer = writer_at k;
         total = total (table k);
       }
+
+  -- the layout of a shape that there are areas of
+  unfoldable pub laid : Option Layout
+  laid = cond (known_form k.form && in_range k) (Some layout_of) None
 
 -- the shape that a layout says
 abbrev pub its_shape : Layout → Shape

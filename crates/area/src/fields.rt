@@ -1,15 +1,12 @@
-// The words of an area by their fields: what its memory holds at a place, and what the current word says.
-ghost use Rattle.std.specs.Prelude.{◌≡◌, ◌+◌, ◌<◌};
-ghost use Rattle.register.specs.Area.{index, counter, slot_field, desk_field, writer_field};
-ghost use Rattle.area.specs.Words.{Sized, memory_of};
-
-use crate::Layout;
+// What the current word says, and the most that writes ended may be.
+ghost use Rattle.std.specs.Prelude.{◌≡◌};
+ghost use Rattle.register.specs.Area.{index, counter};
 
 // The current word is a slot's index times this, and the readers' counter. The old word is one like it.
-pub const INDEX_UNIT: u64 = 4294967296;
+pub const INDEX_UNIT: u64 = 1 << 32;
 
 // The most that writes ended may be.
-pub const MOST_WRITES: u64 = 18446744073709551615;
+pub const MOST_WRITES: u64 = u64::MAX;
 
 // The index of the slot that the current word, or the old word, names.
 pub fn index(word: u64) -> u64
@@ -23,31 +20,4 @@ pub fn counter(word: u64) -> u64
     ensures { result ≡ counter word }
 {
     word % INDEX_UNIT
-}
-
-// Field f of slot s.
-pub fn slot_field(area: &[u64], p: Layout, s: usize, f: usize) -> u64
-    requires { Sized p area.now × (s < p.n + 2) × (f < 4) }
-    ensures { result ≡ memory_of p area.now (slot_field f s) }
-{
-    let at = p.slot_word(s, f);
-    area[at]
-}
-
-// Field f of the desk of reader r.
-pub fn desk_field(area: &[u64], p: Layout, r: usize, f: usize) -> u64
-    requires { Sized p area.now × (r < p.n) × (f < 6) }
-    ensures { result ≡ memory_of p area.now (desk_field f r) }
-{
-    let at = p.desk_word(r, f);
-    area[at]
-}
-
-// Field f of the writer's desk.
-pub fn writer_field(area: &[u64], p: Layout, f: usize) -> u64
-    requires { Sized p area.now × (f < 7) }
-    ensures { result ≡ memory_of p area.now (writer_field f) }
-{
-    let at = p.writer_word(f);
-    area[at]
 }

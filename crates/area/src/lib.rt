@@ -1,5 +1,5 @@
 #![tactic(auto)]
-// The area of document 01: where each word stands, worked out in one place, and the reads and stores of one word.
+// The area of document 01: where each word stands, worked out in one place, and lent words with their layout.
 ghost use Rattle.std.specs.Prelude.{◌≡◌, ◌+◌, ◌≤◌, ◌<◌};
 ghost use Rattle.theory.specs.Table.{total};
 ghost use Rattle.register.specs.Shape.{shape, table};
@@ -7,13 +7,14 @@ ghost use Rattle.area.specs.Words.{its_shape, layout_of, Laid, slot_word, desk_w
 
 pub mod fields;
 pub mod header;
-pub mod records;
-pub mod stores;
+pub mod lent;
+pub mod phases;
+pub mod places;
 
 // The shape of an area, for n readers and records of at most c words, and all that depends on it: the limit of
 // r_start, r_end and the counters; where its parts begin; the words of a reader's desk, and where the record that it
 // keeps begins in it; the words of all.
-#[derive(Clone, Copy)]
+#[derive(Clone, Copy, Debug, PartialEq, Eq)]
 pub struct Layout {
     pub form: u64,
     pub n: usize,
@@ -28,6 +29,8 @@ pub struct Layout {
 }
 
 impl Layout {
+    // Sizes and places of words stay associated constants: document 01 asks for that form.
+
     // Words in the header, and the places of its words.
     pub const HEADER: usize = 8;
 
@@ -111,6 +114,8 @@ impl Layout {
             total: writer + (Layout::WRITER + c),
         }
     }
+
+    // `Laid` stays a clause: the definition `layout_of`, by which contracts name layouts, gives one for every shape.
 
     // Where word f of slot s stands.
     pub fn slot_word(self, s: usize, f: usize) -> usize

@@ -1,27 +1,27 @@
 -- How long the text is: every file's is shorter than the bytes that are lent for it.
 --     digits_length, few_digits, decimal_length, four_digits, flag_length   of a number
---     field_length, fields_length, line_length                              of fields, of a line
+--     field_length, fields_length, line_length, numbers_length              of fields, of a line
 --     read_length, answer_length, lines_length                              of a read's fields, of moves' lines
 --     first_length, last_length, run_length, refused_length                 of the other lines, of a run's text
 --     text_length, text_whole                                               of any file's text; it is whole
 -- Assumes nothing.
-use mathlib.Core.Path.{◌≡◌, ap, ◌∙◌}
-use mathlib.Core.Bool.{Bool, true, false, cond, ◌&&◌}
+use mathlib.Core.Path.{◌≡◌}
+use mathlib.Core.Bool.{Bool, true, false}
 use mathlib.Core.List.{List, [], ◌∷◌, ◌++◌, map}
-use Prim.Native.Nat.{ℕ, zero, suc, ◌+◌, ◌*◌, ◌/◌, ◌%◌, ◌^◌, ◌≤◌, ◌<◌}
-use native.Mathlib.Nat.{pow-suc, div-lt_iff_lt-mul}
+use Prim.Native.Nat.{ℕ, zero, suc, ◌+◌, ◌*◌, ◌/◌, ◌^◌, ◌≤◌, ◌<◌}
+use native.Mathlib.Nat.{pow-suc}
 use native.Mathlib.Omega.{arith}
-use lib.Dec.{ltb}
 use lib.ListN.{length, take, length-append}
+use Rattle.std.proofs.lemmas.List.{length_push}
+use Rattle.std.proofs.lemmas.Bool.Decides.{nat_tests}
 use Rattle.register.specs.Area.{current, memory}
 use Rattle.register.specs.Calls.{Answer, shown}
-use Rattle.atomic.specs.Seen.{got}
-use Rattle.theory.proofs.Tests.{if_true, if_less}
+use Rattle.theory.proofs.Tests.{if_true}
 use Rattle.runfile.specs.RunFile.{readers, capacity, moves, is_run_file, Written, written}
 use Rattle.runfile.proofs.Files.{file_facts}
-use Rattle.text.specs.Lines.{Text, blank, newline, digits_within, decimal, behind_blanks, line}
+use Rattle.text.specs.Lines.{Text, blank, digits_within, decimal, behind_blanks, line}
 use Rattle.text.specs.Sheet.{sheet, put}
-use Rattle.text.proofs.Filling.{put_whole}
+use Rattle.text.proofs.Sheets.{put_whole}
 use Rattle.tally.specs.Tally.{Tally}
 use Rattle.playing.specs.Play.{State, played, next, first_state, run_state, run_tally}
 use Rattle.runs.specs.Promise.{read_got, reads_got}
@@ -34,32 +34,18 @@ use Rattle.bench.specs.Sizes.{text_bytes}
 
 -- ---- numbers
 
-last_digit : (t : Text) (d : ℕ) → length (t ++ (d ∷ [])) ≡ length t + 1
-last_digit t d = length-append t (d ∷ [])
-
 digits_length : (f n : ℕ) → length (digits_within f n) ≤ f
 digits_length zero n = omega arith
-digits_length (suc f) n =
-    let front : length (cond (ltb n 10) [] (digits_within f (n / 10))) ≤ f =
-    if_true (λ (t : Text). length t ≤ f) (ltb n 10) [] (digits_within f (n / 10)) (λ e. omega arith)
-    (λ e. digits_length f (n / 10)) in
-    omega (arith, front, last_digit (cond (ltb n 10) [] (digits_within f (n / 10))) (48 + n % 10))
+digits_length (suc f) n = grind (arith, length_push, nat_tests, digits_length f (n / 10))
 
 few_digits : (f k n : ℕ) → n < 10 ^ suc k → length (digits_within f n) ≤ suc k
 few_digits zero k n h = omega arith
 few_digits (suc f) zero n h =
     let small : n < 10 = omega (arith, h, pow-suc 10 0) in
-    let front : length (cond (ltb n 10) [] (digits_within f (n / 10))) ≤ 0 =
-    if_less (λ (t : Text). length t ≤ 0) n 10 [] (digits_within f (n / 10)) (λ e. omega arith)
-    (λ e. absurd (omega arith)) in
-    omega (arith, front, last_digit (cond (ltb n 10) [] (digits_within f (n / 10))) (48 + n % 10))
+    grind (arith, length_push, nat_tests)
 few_digits (suc f) (suc k) n h =
-    let less : n / 10 < 10 ^ suc k =
-    (div-lt_iff_lt-mul {k = 10} {x = n} {y = 10 ^ suc k} (omega arith)).1 (omega (arith, h, pow-suc 10 (suc k))) in
-    let front : length (cond (ltb n 10) [] (digits_within f (n / 10))) ≤ suc k =
-    if_less (λ (t : Text). length t ≤ suc k) n 10 [] (digits_within f (n / 10)) (λ e. omega arith)
-    (λ e. few_digits f k (n / 10) less) in
-    omega (arith, front, last_digit (cond (ltb n 10) [] (digits_within f (n / 10))) (48 + n % 10))
+    let less : n / 10 < 10 ^ suc k = omega (arith, h, pow-suc 10 (suc k)) in
+    grind (arith, length_push, nat_tests, few_digits f k (n / 10) less)
 
 decimal_length : (n : ℕ) → length (decimal n) ≤ 20
 unfolding decimal
@@ -86,26 +72,19 @@ fields_length (x ∷ v) =
     omega (arith, field_length (decimal x) (map decimal v), decimal_length x, fields_length v)
 
 line_length : (t : Text) (l : List Text) → length (line t l) ≡ length t + length (behind_blanks l) + 1
-line_length t l =
-    length-append (t ++ behind_blanks l) (newline ∷ []) ∙ ap (λ k. k + 1) (length-append t (behind_blanks l))
+line_length t l = simp (length_push, length-append)
+
+-- of a word with numbers behind it
+numbers_length : (t : Text) (v : List ℕ) → length (line t (map decimal v)) ≤ length t + 21 * length v + 1
+numbers_length t v = omega (arith, line_length t (map decimal v), fields_length v)
 
 -- ---- the line of a move
 
 read_length : (n : ℕ) (w : Written) (x : Answer)
     → length (behind_blanks (read_fields n w x)) ≤ 21 * costs (read_got n w.process x)
-read_length n w x = go (x.ended && ltb w.process n)
-  where
-    go : (t : Bool)
-        → length (behind_blanks (cond t (decimal x.age ∷ map decimal (shown x.area w.process [])) []))
-        ≤ 21 * costs (cond t (got w.process x ∷ []) [])
-    go true =
-        omega (
-          arith,
-          field_length (decimal x.age) (map decimal (shown x.area w.process [])),
-          decimal_length x.age,
-          fields_length (shown x.area w.process []),
-        )
-    go false = omega arith
+read_length n w x =
+    let v = shown x.area w.process [] in
+    grind (arith, nat_tests, field_length (decimal x.age) (map decimal v), decimal_length x.age, fields_length v)
 
 answer_length : (n i : ℕ) (w : Written) (x : Answer) → i < 10000
     → length (answer_line n i w x) ≤ 51 + 21 * costs (read_got n w.process x)
@@ -148,40 +127,11 @@ lines_length b (suc k) i s h =
     )
 
 first_length : (b : List ℕ) → length (first_line b) ≤ 67
-first_length b =
-    let n = decimal (readers b) in
-    let c = decimal (capacity b) in
-    let m = decimal (moves b) in
-    omega (
-      arith,
-      line_length run_word (n ∷ c ∷ m ∷ []),
-      field_length n (c ∷ m ∷ []),
-      field_length c (m ∷ []),
-      field_length m [],
-      decimal_length (readers b),
-      decimal_length (capacity b),
-      decimal_length (moves b),
-    )
+first_length b = omega (arith, numbers_length run_word (readers b ∷ capacity b ∷ moves b ∷ []))
 
 last_length : (a : List ℕ) (t : Tally) → length (last_line a t) ≤ 88
 last_length a t =
-    let w = decimal (memory a current) in
-    let y = decimal t.accepted in
-    let z = decimal t.refusals in
-    let g = decimal t.greatest in
-    omega (
-      arith,
-      line_length end_word (w ∷ y ∷ z ∷ g ∷ []),
-      field_length w
-          (y ∷ z ∷ g ∷ []),
-      field_length y (z ∷ g ∷ []),
-      field_length z (g ∷ []),
-      field_length g [],
-      decimal_length (memory a current),
-      decimal_length t.accepted,
-      decimal_length t.refusals,
-      decimal_length t.greatest,
-    )
+    omega (arith, numbers_length end_word (memory a current ∷ t.accepted ∷ t.refusals ∷ t.greatest ∷ []))
 
 run_length : (b : List ℕ) → is_run_file b ≡ true → length (run_text b) < text_bytes
 unfolding run_text
@@ -200,13 +150,7 @@ run_length b e =
     )
 
 refused_length : length refused_text < text_bytes
-refused_length =
-    omega (
-      arith,
-      line_length refused_word (decimal 11 ∷ []),
-      field_length (decimal 11) [],
-      decimal_length 11,
-    )
+refused_length = omega (arith, numbers_length refused_word (11 ∷ []))
 
 -- so many bytes hold the text of any file
 pub text_length : (b : List ℕ) → length (printed b) < text_bytes

@@ -1,5 +1,5 @@
 -- Words enough for the area of any run, and the first of them. Assumes nothing.
-use mathlib.Core.Path.{◌≡◌, sym, ap, subst, ◌∙◌}
+use mathlib.Core.Path.{◌≡◌, sym, ap, ◌∙◌}
 use mathlib.Core.Bool.{true}
 use mathlib.Core.List.{List}
 use Prim.Native.Nat.{ℕ, ◌+◌, ◌*◌, ◌≤◌}
@@ -29,13 +29,13 @@ room_for_all b few short =
     let desks : readers b * width t 2 ≤ 8 * 38 = mul-le-mul few desk in
     omega arith
 
-module _ (b : List ℕ) (e : is_run_file b ≡ true) (h : Header) (head : h ≡ header_of b) where
+module _ (b : List ℕ) (e : is_run_file b ≡ true) {h : Header} (head : h ≡ header_of b) where
   pub in_layout : (h.n ≤ 64) × (h.c ≤ 256)
   in_layout =
       let facts = file_facts b e in
       (omega (arith, ap (λ z. z.n) head, facts.few_readers), omega (arith, ap (λ z. z.c) head, facts.few_words))
 
-  module _ (p : Layout) (laid : p ≡ layout_of (shape 1 h.n h.c)) (space : List ℕ)
+  module _ {p : Layout} (laid : p ≡ layout_of (shape 1 h.n h.c)) (space : List ℕ)
       (enough : area_words ≤ length space) where
     its_total : p.total ≡ total (table (run_shape b))
     its_total = ap (λ z. z.total) laid ∙ ap (λ z. total (table (shape 1 z.n z.c))) head
@@ -43,8 +43,7 @@ module _ (b : List ℕ) (e : is_run_file b ≡ true) (h : Header) (head : h ≡ 
     pub inside : p.total ≤ length space
     inside =
         let facts = file_facts b e in
-        le_trans (subst (λ k. k ≤ area_words) (sym its_total)
-        (room_for_all b facts.few_readers facts.few_words)) enough
+        rw its_total (le_trans (room_for_all b facts.few_readers facts.few_words) enough)
 
     pub front_exact : p.total ≡ length (take p.total space)
     front_exact = sym (length-take-le p.total space inside)

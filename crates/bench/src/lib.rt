@@ -1,5 +1,5 @@
 #![tactic(auto)]
-// The bench: the text of a run file's run, on any bytes.
+// The bench: reading a file, and the text of a run file's run, on any bytes.
+pub mod input;
 pub mod printing;
 pub mod sizes;
-mod types;

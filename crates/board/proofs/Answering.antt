@@ -1,80 +1,59 @@
--- A call on any words: where the test gives a number the call gives it too, and where it passes the call is its plan
--- carried out. Assumes nothing.
+-- A call on words that pass the test is its plan carried out. Assumes nothing.
 use mathlib.Core.Path.{◌≡◌, refl, sym, ap, ap₂, ◌∙◌}
-use mathlib.Core.Logic.{◌≢◌}
-use mathlib.Core.Bool.{Bool, true, false, cond}
+use mathlib.Core.Bool.{Bool, cond}
 use mathlib.Core.List.{List}
-use Prim.Native.Nat.{ℕ, ◌<◌, ◌≤◌}
+use Prim.Native.Nat.{ℕ, ◌<◌}
 use native.Mathlib.Omega.{arith}
 use lib.Dec.{ltb, eqb}
 use borrow.Author.Tests.{lt-ltb, le-ltb, eq-eqb, ne_eqb}
-use Rattle.register.specs.Area.{is_area, memory, undamaged, shape_of}
+use Rattle.register.specs.Area.{memory, shape_of}
 use Rattle.register.specs.Steps.{Plan, refuse, accept, reader_step, writer_step, Move, step, mover, plan}
 use Rattle.register.specs.Calls.{refused, carried_out, answered}
-use Rattle.register.proofs.Facts.{whole_area, every_call}
+use Rattle.register.proofs.Facts.{every_call}
 use Rattle.area.specs.declared.Layout.{Layout}
 use Rattle.area.specs.Words.{its_shape, layout_of, memory_of}
-use Rattle.testing.specs.Test.{test_number}
-use Rattle.testing.proofs.AreaTest.{sized}
-use Rattle.testing.proofs.TestNumber.{both_pass, refuses}
-use Rattle.answer.specs.declared.Answer.{Answer as Returned}
-use Rattle.answer.specs.Carried.{whole, Ready, carried}
-use Rattle.answer.proofs.Stored.{returned}
+use Rattle.testing.proofs.TestResult.{Passes}
+use Rattle.answer.specs.Carried.{carried}
 
--- the test failed: its number is the answer, and no word is changed
-pub test_refuses : (a : List ℕ) (x : Move) {k : ℕ} {y : Returned} → k ≡ test_number a → k ≢ 0
-    → y ≡ returned k false → whole y a ≡ answered a x
-test_refuses a x e d f =
-    ap (λ z. whole z a) f ∙ ap (λ j. refused j a) e ∙ sym (refuses a x (λ z. d (e ∙ z)))
+module _ {p : Layout} {a : List ℕ} (t : Passes p a) where
+  pub carries_out : (x : Move)
+      → carried p (mover (its_shape p) x) a (plan (its_shape p) (memory_of p a) x) ≡ answered a x
+  unfolding carried carried_out answered
+  carries_out x =
+      ap (λ q. carried q (mover (its_shape q) x) a (plan (its_shape q) (memory_of q a) x)) t.layout
+      ∙ go (plan (shape_of a) (memory a) x)
+      ∙ sym (λ i. cond (t.area i)
+      (cond (every_call (shape_of a) x i) (cond (t.undamaged i) done (refused 2 a)) (refused 1 a)) (refused 1 a))
+    where
+      done : Rattle.register.specs.Calls.Answer
+      done = carried_out (mover (shape_of a) x) a (plan (shape_of a) (memory a) x)
 
-module _ (a : List ℕ) {k : ℕ} (e : k ≡ test_number a) (z : k ≡ 0) where
-  -- the test passed
-  pub passes : (is_area a ≡ true) × (undamaged a ≡ true)
-  passes = both_pass a (sym e ∙ z)
+      go : (y : Plan) → carried (layout_of (shape_of a)) (mover (shape_of a) x) a y
+          ≡ carried_out (mover (shape_of a) x) a y
+      go (refuse j) = refl
+      go (accept stores ends) = refl
 
-  module _ {p : Layout} (f : p ≡ layout_of (shape_of a)) where
-    -- the area's own layout fits it
-    pub ready : Ready p a
-    ready = record { sized = sized a p f passes.0; sound = rw f (whole_area a passes.1) }
+  module _ (q : ℕ) where
+    abbrev reads : Plan
+    reads = reader_step (its_shape p) (memory_of p a) q
 
-    -- the call is its plan carried out
-    pub carries_out : (x : Move)
-        → carried p (mover (its_shape p) x) a (plan (its_shape p) (memory_of p a) x) ≡ answered a x
-    unfolding carried carried_out answered
-    carries_out x =
-        ap (λ q. carried q (mover (its_shape q) x) a (plan (its_shape q) (memory_of q a) x)) f
-        ∙ go (plan (shape_of a) (memory a) x)
-        ∙ sym (λ i. cond (passes.0 i)
-        (cond (every_call (shape_of a) x i) (cond (passes.1 i) done (refused 2 a)) (refused 1 a)) (refused 1 a))
-      where
-        done : Rattle.register.specs.Calls.Answer
-        done = carried_out (mover (shape_of a) x) a (plan (shape_of a) (memory a) x)
+    abbrev writes : Plan
+    writes = writer_step (its_shape p) (memory_of p a)
 
-        go : (y : Plan) → carried (layout_of (shape_of a)) (mover (shape_of a) x) a y
-            ≡ carried_out (mover (shape_of a) x) a y
-        go (refuse j) = refl
-        go (accept stores ends) = refl
+    -- what a step carries out, once its process is known
+    picked : {x y : Bool} → ltb q p.n ≡ x → eqb q p.n ≡ y
+        → carried p q a (cond x reads (cond y writes (refuse 3))) ≡ answered a (step q)
+    picked l e =
+        sym (ap₂ (λ x y. carried p q a (cond x reads (cond y writes (refuse 3)))) l e) ∙ carries_out (step q)
 
-    module _ (q : ℕ) where
-      abbrev reads : Plan
-      reads = reader_step (its_shape p) (memory_of p a) q
+    pub by_reader : q < p.n → carried p q a reads ≡ answered a (step q)
+    by_reader l = picked (lt-ltb q p.n l) refl
 
-      abbrev writes : Plan
-      writes = writer_step (its_shape p) (memory_of p a)
+    pub by_writer : q ≡ p.n → carried p p.n a writes ≡ answered a (step q)
+    by_writer e =
+        ap (λ j. carried p j a writes) (sym e)
+        ∙ picked (le-ltb q p.n (omega (arith, e))) (eq-eqb q p.n e)
 
-      -- what a step carries out, once its process is known
-      picked : {x y : Bool} → ltb q p.n ≡ x → eqb q p.n ≡ y
-          → carried p q a (cond x reads (cond y writes (refuse 3))) ≡ answered a (step q)
-      picked l e =
-          sym (ap₂ (λ x y. carried p q a (cond x reads (cond y writes (refuse 3)))) l e) ∙ carries_out (step q)
-
-      pub by_reader : q < p.n → carried p q a reads ≡ answered a (step q)
-      by_reader l = picked (lt-ltb q p.n l) refl
-
-      pub by_writer : q ≡ p.n → carried p p.n a writes ≡ answered a (step q)
-      by_writer e =
-          ap (λ j. carried p j a writes) (sym e)
-          ∙ picked (le-ltb q p.n (omega (arith, e))) (eq-eqb q p.n e)
-
-      pub by_nobody : p.n ≤ q → q ≢ p.n → carried p q a (refuse 3) ≡ answered a (step q)
-      by_nobody l d = picked (le-ltb q p.n l) (ne_eqb q p.n d)
+    pub by_nobody : p.n < q → refused 3 a ≡ answered a (step q)
+    unfolding carried
+    by_nobody l = picked (le-ltb q p.n (omega arith)) (ne_eqb q p.n (λ e. omega (arith, e)))

@@ -1,5 +1,4 @@
 -- Laws of the calls that their proofs cite. Assumes nothing.
 mod Made
 mod Answering
-mod Shown
 mod Unique

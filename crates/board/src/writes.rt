@@ -4,16 +4,16 @@ ghost use Rattle.register.specs.Calls.{write_begun};
 ghost use Rattle.answer.specs.Carried.{whole};
 
 use answer::Answer;
-use area::header;
+use area::lent::Area;
 
 // The writer begins a write of a record.
 pub fn begin_write(area: &mut [u64], words: &[u64]) -> Answer
     ensures { whole result area.new ≡ write_begun area.old words.now }
 {
-    let number = testing::tested(area);
-    if number != 0 {
-        return answer::refusal(number);
-    }
-    let p = header::layout(area);
-    writing::write_begins(area, p, words)
+    let layout = testing::tested(area)?;
+    let mut lent = Area {
+        words: area,
+        layout,
+    };
+    writing::write_begins(&mut lent, words)
 }

@@ -1,7 +1,7 @@
 -- How many words an area has, and what making answers for that many and for others. Assumes nothing.
 use mathlib.Core.Path.{◌≡◌, refl, sym, ap, ◌∙◌}
 use mathlib.Core.Logic.{◌≢◌}
-use mathlib.Core.Bool.{Bool, true, false, cond, ◌&&◌, not}
+use mathlib.Core.Bool.{Bool, true, false, cond, ◌&&◌}
 use mathlib.Core.List.{List}
 use Prim.Native.Nat.{ℕ, ◌≤◌}
 use native.Mathlib.Omega.{arith}
@@ -12,22 +12,8 @@ use Rattle.theory.specs.Place.{Record}
 use Rattle.theory.specs.Table.{total}
 use Rattle.register.specs.Shape.{Shape, table, known_form, in_range}
 use Rattle.register.specs.Calls.{Answer, made}
-use Rattle.area.specs.declared.Layout.{Layout}
-use Rattle.area.specs.Words.{layout_of}
-use Rattle.area.proofs.Taken.{Taken, not_taken}
 use Rattle.board_c.specs.Sizes.{words_of}
 use Rattle.board_c.specs.Promises.{WordsAreMade}
-
--- the form is not known, or N or C is out of range
-pub words_none : (k : Shape) {r : Bool} → r ≡ known_form k.form && in_range k → not r ≡ true
-    → 0 ≡ words_of k
-unfolding words_of
-words_none k e h = rw (not_taken k e h)
-
--- they are, and the total is the layout's
-pub words_total : {k : Shape} {p : Layout} → Taken k → p ≡ layout_of k → p.total ≡ words_of k
-unfolding words_of
-words_total t e = rw t.known (ap (λ q. q.total) e)
 
 -- the number of one of four answers, by three tests
 picked : (t s l : Bool) (w x y z : Answer)

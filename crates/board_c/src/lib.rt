@@ -9,14 +9,14 @@ ghost use Rattle.place.specs.Places.{place_of};
 ghost use Rattle.board_c.specs.Answers.{as_answer, in_c};
 ghost use Rattle.board_c.specs.Sizes.{words_of};
 
-use answer::Answer;
-use area::{Layout, header};
+use answer::{Answer, told};
+use area::header;
 use board::{making, reads, steps, writes};
 use place::RecordPlace;
 
-// What a call returns: its number, 1 if an operation ended or else 0, and the age.
+// What a call returns to C, which has no Result: its number, 1 if an operation ended or else 0, and the age.
 #[repr(C)]
-#[derive(Clone, Copy)]
+#[derive(Clone, Copy, Debug, PartialEq, Eq)]
 pub struct BoardAnswer {
     pub number: u64,
     pub ended: u64,
@@ -24,14 +24,15 @@ pub struct BoardAnswer {
 }
 
 // An answer of the board as C has it.
-fn as_answer(x: Answer) -> BoardAnswer
-    ensures { result ≡ as_answer x }
-{
-    let ended = x.ended as u64;
-    BoardAnswer {
-        number: x.number,
-        ended,
-        age: x.age,
+impl From<Answer> for BoardAnswer {
+    ghost from_gives = { λ x r. r ≡ as_answer x };
+
+    fn from(answer: Answer) -> Self {
+        BoardAnswer {
+            number: told::number(answer),
+            ended: u64::from(told::ended(answer)),
+            age: told::age(answer),
+        }
     }
 }
 
@@ -47,7 +48,7 @@ pub extern "C" fn board_make(
     ensures { (result, area.new)
         ≡ in_c (made (shape form n c) «record».now area.old) }
 {
-    as_answer(making::make(form, n, c, record, area))
+    making::make(form, n, c, record, area).into()
 }
 
 // A reader begins a read.
@@ -55,7 +56,7 @@ pub extern "C" fn board_make(
 pub extern "C" fn board_begin_read(area: &mut [u64], reader: u64) -> BoardAnswer
     ensures { (result, area.new) ≡ in_c (read_begun area.old reader) }
 {
-    as_answer(reads::begin_read(area, reader))
+    reads::begin_read(area, reader).into()
 }
 
 // The writer begins a write of a record.
@@ -64,7 +65,7 @@ pub extern "C" fn board_begin_write(area: &mut [u64], record: &[u64]) -> BoardAn
     ensures { (result, area.new)
         ≡ in_c (write_begun area.old «record».now) }
 {
-    as_answer(writes::begin_write(area, record))
+    writes::begin_write(area, record).into()
 }
 
 // One step of a process: a reader below N, the writer at N.
@@ -72,7 +73,7 @@ pub extern "C" fn board_begin_write(area: &mut [u64], record: &[u64]) -> BoardAn
 pub extern "C" fn board_step(area: &mut [u64], process: u64) -> BoardAnswer
     ensures { (result, area.new) ≡ in_c (stepped area.old process) }
 {
-    as_answer(steps::step(area, process))
+    steps::step(area, process).into()
 }
 
 // Where the reader's record stands in the area, if there is one to show.
@@ -84,13 +85,10 @@ pub extern "C" fn board_show(area: &[u64], reader: u64) -> RecordPlace
 }
 
 // The words of an area for n readers and records of at most c words, and 0 where making answers 9.
+#[tactic(auto, unfolding(area::specs::Words::laid, crate::specs::Sizes::words_of))]
 #[unsafe(no_mangle)]
 pub extern "C" fn board_words(form: u64, n: u64, c: u64) -> u64
     ensures { result ≡ words_of (shape form n c) }
 {
-    if !header::known(form, n, c) {
-        return 0;
-    }
-    let p = Layout::new(form, n as usize, c as usize);
-    p.total as u64
+    header::laid(form, n, c).map_or(0, |p| p.total as u64)
 }

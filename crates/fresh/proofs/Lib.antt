@@ -1,4 +1,2 @@
--- Laws of the words of a fresh area that the proofs cite, and of the number that making gives. Assumes nothing.
-mod Clearing
+-- Laws of the words of a fresh area that the proofs cite. Assumes nothing.
 mod Filled
-pub mod Number

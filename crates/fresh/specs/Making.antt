@@ -1,21 +1,20 @@
--- The number that making gives, and its stores in the three lots in which the code makes them. Assumes nothing.
-use Rattle.std.specs.Prelude.{◌&&◌, List, [], ◌∷◌, ℕ, eqb, leb, length}
+-- What the test of making gives, and its stores in the three lots in which the code makes them. Assumes nothing.
+use Rattle.std.specs.Prelude.{cond, ◌&&◌, List, [], ◌∷◌, ℕ, eqb, leb, length, Result, Ok, Err}
 use Rattle.theory.specs.Place.{Record, Store, ◌≔◌, copied}
 use Rattle.theory.specs.Table.{total}
 use Rattle.register.specs.Area.{header, current, size, contents}
 use Rattle.register.specs.Shape.{Shape, table, slots_at, desks_at, writer_at, known_form, in_range}
-use Rattle.register.specs.Steps.{◌else◌, unless}
+use Rattle.area.specs.declared.Layout.{Layout}
+use Rattle.area.specs.Words.{layout_of}
+use Rattle.answer.specs.declared.refusals.Refusal.{Refusal}
+use Rattle.answer.specs.declared.refusals.Refusal.TheVariants.{OutOfRange, AnotherLength, TooLong}
 
--- for as many words lent and a record of a length: the first test that fails gives its number, and 0 says that all
--- pass
-unfoldable pub making_number : Shape → ℕ → ℕ → ℕ
-making_number k words length =
-    unless (λ i. i)
-    ((known_form k.form && in_range k) else 9
-    ∷ eqb words (total (table k)) else 10
-    ∷ leb length k.c else 4
-    ∷ [])
-    0
+-- for as many words lent and a record of a length: the layout of what is made, or the first test that fails
+unfoldable pub making_result : Shape → ℕ → ℕ → Result Layout Refusal
+making_result k words length =
+    cond (known_form k.form && in_range k)
+    (cond (eqb words (total (table k))) (cond (leb length k.c) (Ok (layout_of k)) (Err TooLong)) (Err AnotherLength))
+    (Err OutOfRange)
 
 -- words 0 to 3: the form, N, C and the total
 abbrev pub numbers : Shape → List Store

@@ -1,120 +1,112 @@
--- The place of a reader's record: where the code finds it or not (`place_untested`, `place_busy`, `place_own`), and
--- that what showing hands back stands there, within the area. Assumes nothing.
-use mathlib.Core.Path.{◌≡◌, refl, sym, ap, ◌∙◌}
-use mathlib.Core.Logic.{◌≢◌}
+-- The words of a reader's record: where the code finds them or not (`range_none`, `range_own`, `told_is`), and that
+-- what showing hands back stands there, within the area. Assumes nothing.
+use mathlib.Core.Path.{◌≡◌, refl}
 use mathlib.Core.Bool.{Bool, true, false}
 use mathlib.Core.List.{List}
 use Prim.Native.Nat.{ℕ, ◌+◌, ◌≤◌}
-use native.Mathlib.Nat.{mul-le-mul_right}
+use native.Mathlib.Nat.{add-sub_cancel_left}
 use native.Mathlib.Omega.{arith}
-use lib.Dec.{eqb}
-use lib.ListN.{length, take, drop}
-use Rattle.theory.specs.Place.{Record}
-use Rattle.theory.specs.Table.{width}
-use Rattle.register.specs.Shape.{table}
-use Rattle.register.specs.Area.{len, shape_of}
-use Rattle.theory.specs.Lists.{all}
+use lib.ListN.{length}
+use Rattle.std.specs.Prelude.{Some, None}
+use Rattle.register.specs.Area.{shape_of, len, memory}
 use Rattle.register.specs.Calls.{is_own, shown}
 use Rattle.area.specs.declared.Layout.{Layout}
 use Rattle.area.specs.Words.{layout_of, desk_word, memory_of, its_shape}
-use Rattle.testing.specs.Test.{test_number}
-use Rattle.place.specs.Places.{rest_tests, nowhere, place_of}
-use Rattle.place.specs.Promises.{PlacesAreShown}
-use Rattle.place.proofs.Resting.{not_own, own_is, Own, own_facts}
+use Rattle.testing.proofs.TestResult.{Passes}
+use Rattle.place.specs.Places.{record_at, record_range, told, place_of}
+use Rattle.place.specs.Promises.{RangesAreShown, PlacesAreShown}
+use Rattle.place.proofs.Resting.{own_facts}
 
 module _ (a : List ℕ) (r : ℕ) where
-  -- ---- where the code finds it
+  -- ---- where the code finds them
 
   -- not the reader's
-  place_none : is_own a r ≡ false → nowhere ≡ place_of a r
-  unfolding place_of
-  place_none e = rw e
-
-  -- the test of the area gives a number
-  pub place_untested : test_number a ≢ 0 → nowhere ≡ place_of a r
-  place_untested d = place_none (not_own a r d)
-
-  module _ {p : Layout} (l : p ≡ layout_of (shape_of a)) (e : test_number a ≡ 0) where
-    -- a test of the reader fails
-    pub place_busy : all (rest_tests p.n (memory_of p a) r) ≡ false → nowhere ≡ place_of a r
-    place_busy f = place_none (sym (own_is a r l e) ∙ f)
-
-    -- all pass
-    pub rested : all (rest_tests p.n (memory_of p a) r) ≡ true → is_own a r ≡ true
-    rested f = sym (own_is a r l e) ∙ f
+  pub range_none : is_own a r ≡ false → None ≡ record_range a r
+  unfolding record_range
+  range_none e = rw e
 
   -- the reader's, by the area's layout
+  pub range_own : {p : Layout} {start words : ℕ} → Passes p a → is_own a r ≡ true
+      → start ≡ desk_word (its_shape p) r p.kept → words ≡ memory_of p a (len r)
+      → Some (record { start = start; end = start + words }) ≡ record_range a r
+  unfolding record_range
+  range_own h e f g = rw (e, f, g, h.layout)
+
+  -- and the place for C
   pub place_own : {p : Layout} {at words : ℕ} → p ≡ layout_of (shape_of a) → is_own a r ≡ true
       → at ≡ desk_word (its_shape p) r p.kept → words ≡ memory_of p a (len r)
       → record { yes = 1; at = at; len = words } ≡ place_of a r
   unfolding place_of
   place_own l e f g = rw (e, f, g, l)
 
-  -- ---- what it says
-
-  -- yes is 1 exactly where the record is the reader's
-  pub yes_is : eqb (place_of a r).yes 1 ≡ is_own a r
-  unfolding place_of
-  yes_is = go (is_own a r) refl
+  -- it says the same as the range
+  pub told_is : told (record_range a r) ≡ place_of a r
+  unfolding record_range place_of
+  told_is = go (is_own a r) refl
     where
-      go : (b : Bool) → is_own a r ≡ b → eqb (place_of a r).yes 1 ≡ is_own a r
-      go true e = rw e
+      go : (b : Bool) → is_own a r ≡ b → told (record_range a r) ≡ place_of a r
+      go true e = rw (e, add-sub_cancel_left)
       go false e = rw e
 
-  yes_own : (place_of a r).yes ≡ 1 → is_own a r ≡ true
-  yes_own = go (is_own a r) refl
+  -- ---- what they say
+
+  own_range : is_own a r ≡ true → record_range a r
+      ≡ Some (record { start = record_at a r; end = record_at a r + memory a (len r) })
+  unfolding record_range
+  own_range e = rw e
+
+  own_within : is_own a r ≡ true → record_at a r + memory a (len r) ≤ length a
+  own_within e = (own_facts a r e refl).within
+
+  pub ranges_are_shown : RangesAreShown a r
+  unfolding record_range shown
+  ranges_are_shown = go (is_own a r) refl
     where
-      go : (b : Bool) → is_own a r ≡ b → (place_of a r).yes ≡ 1 → is_own a r ≡ true
-      go true e h = e
-      go false e h = absurd (omega (arith, ap (λ p. p.yes) (place_none e) ∙ h))
-
-  -- and 0 where it is not
-  yes_none : (place_of a r).yes ≡ 0 → is_own a r ≡ false
-  yes_none = go (is_own a r) refl
-    where
-      go : (b : Bool) → is_own a r ≡ b → (place_of a r).yes ≡ 0 → is_own a r ≡ false
-      go true e h =
-          let own = place_own {p = layout_of (shape_of a)} refl e refl refl in
-          absurd (omega (arith, ap (λ p. p.yes) own ∙ h))
-      go false e h = e
-
-  there : (place_of a r).yes ≡ 1 → (d : Record)
-      → shown a r d ≡ take (place_of a r).len (drop (place_of a r).at a)
-  unfolding place_of shown
-  there h d = rw (yes_own h)
-
-  -- the words of the desk's record lie within the area
-  record_within : {p : Layout} → Own p a r → desk_word (its_shape p) r 6 + memory_of p a (len r) ≤ length a
-  record_within {p} o =
-      omega (
-        arith,
-        mul-le-mul_right (width (table (its_shape p)) 2) o.exists,
-        o.sized.exact,
-        (o.sound.desk r o.exists).words,
-      )
-
-  within : (place_of a r).yes ≡ 1 → (place_of a r).at + (place_of a r).len ≤ length a
-  unfolding place_of
-  within h = rw (yes_own h) (record_within (own_facts a r (yes_own h) refl))
-
-  default : (place_of a r).yes ≡ 0 → (d : Record) → shown a r d ≡ d
-  unfolding shown
-  default h d = rw (yes_none h)
-
-  either : (place_of a r).yes ≤ 1
-  unfolding place_of
-  either = go (is_own a r) refl
-    where
-      go : (b : Bool) → is_own a r ≡ b → (place_of a r).yes ≤ 1
-      go true e = rw e (omega arith)
-      go false e = rw e (omega arith)
+      go : (b : Bool) → is_own a r ≡ b → RangesAreShown a r
+      go true e =
+          let within = own_within e in
+          let this = own_range e in
+          record {
+            there =
+                λ w f d.
+                let it : w ≡ record { start = record_at a r; end = record_at a r + memory a (len r) } = cc in
+                rw (it, e, add-sub_cancel_left);
+            within =
+                λ w f.
+                let it : w ≡ record { start = record_at a r; end = record_at a r + memory a (len r) } = cc in
+                rw it (omega arith, within);
+            default = λ f d. absurd cc;
+            own = rw e;
+          }
+      go false e =
+          let none = range_none e in
+          record {
+            there = λ w f d. absurd cc;
+            within = λ w f. absurd cc;
+            default = λ f d. rw e;
+            own = rw e;
+          }
 
   pub places_are_shown : PlacesAreShown a r
-  places_are_shown =
-      record {
-        there = there;
-        within = within;
-        default = default;
-        nothing = λ h. sym (place_none (yes_none h));
-        either = either;
-      }
+  unfolding place_of shown
+  places_are_shown = go (is_own a r) refl
+    where
+      go : (b : Bool) → is_own a r ≡ b → PlacesAreShown a r
+      go true e =
+          let yes_is : (place_of a r).yes ≡ 1 = rw e in
+          record {
+            there = λ y d. rw e;
+            within = λ y. rw e (own_within e);
+            default = λ z d. absurd (omega (arith, z, yes_is));
+            nothing = λ z. absurd (omega (arith, z, yes_is));
+            either = omega (arith, yes_is);
+          }
+      go false e =
+          let yes_is : (place_of a r).yes ≡ 0 = rw e in
+          record {
+            there = λ y d. absurd (omega (arith, y, yes_is));
+            within = λ y. absurd (omega (arith, y, yes_is));
+            default = λ z d. rw e;
+            nothing = λ z. rw e;
+            either = omega (arith, yes_is);
+          }

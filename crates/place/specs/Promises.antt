@@ -1,8 +1,21 @@
 -- What the place of a record means. Assumes nothing.
-use Rattle.std.specs.Prelude.{◌≡◌, List, ℕ, ◌+◌, ◌≤◌, length, take, drop}
+use Rattle.std.specs.Prelude.{◌≡◌, List, ℕ, ◌+◌, ◌-◌, ◌≤◌, length, take, drop, Some, None, is_some}
+use Rattle.std.specs.declared.ops.Range.{Range}
 use Rattle.theory.specs.Place.{Record}
-use Rattle.register.specs.Calls.{shown}
-use Rattle.place.specs.Places.{nowhere, place_of}
+use Rattle.register.specs.Calls.{is_own, shown}
+use Rattle.place.specs.Places.{record_range, nowhere, place_of}
+
+-- the range of a reader's record in any words, against what showing hands back for any default
+pub record RangesAreShown (a : List ℕ) (reader : ℕ) : Type 0 where
+  -- a range: the record is its words
+  pub there : (w : Range ℕ) → record_range a reader ≡ Some w → (default : Record)
+      → shown a reader default ≡ take (w.end - w.start) (drop w.start a)
+  -- and never outside what was lent
+  pub within : (w : Range ℕ) → record_range a reader ≡ Some w → (w.start ≤ w.end) × (w.end ≤ length a)
+  -- none: the default
+  pub default : record_range a reader ≡ None → (default : Record) → shown a reader default ≡ default
+  -- there is one exactly where the record is the reader's
+  pub own : is_some (record_range a reader) ≡ is_own a reader
 
 -- the place of a reader's record in any words, against what showing hands back for any default
 pub record PlacesAreShown (a : List ℕ) (reader : ℕ) : Type 0 where

@@ -1,11 +1,13 @@
 #![tactic(auto)]
-// The bench: reads a run file from standard input and prints what its run did. All that matters is in `bench`.
+// The bench: reads a run file from standard input and prints what its run did. All that matters is in `bench`. The
+// status is 0 whatever the run did.
+use bench::input::read_file;
 use bench::sizes;
 
-fn main() {
+fn main(rt: HostRuntime) {
     let mut file = [0u8; sizes::FILE];
-    let length = io::read_full(0, &mut file);
+    let length = read_file(rt.stdin(), &mut file);
     let mut text = [0u8; sizes::TEXT];
     let end = bench::printing::whole_text(&file[..length], &mut text);
-    io::write_all(1, &text[..end]);
+    let _ = rt.write_all(&text[..end]);
 }

@@ -1,5 +1,5 @@
 -- Which number the begin of a run and its moves are answered: each row of `RunNumbers`, both ways. Assumes nothing.
-use mathlib.Core.Path.{◌≡◌, refl, sym, subst}
+use mathlib.Core.Path.{◌≡◌, refl}
 use mathlib.Core.Logic.{◌≢◌, ◌↔◌}
 use mathlib.Core.Bool.{Bool, true, false, cond}
 use mathlib.Core.List.{List, ◌∷◌}
@@ -7,6 +7,7 @@ use Prim.Native.Nat.{ℕ, ◌+◌, ◌*◌}
 use native.Mathlib.Decide.{ℕ_discrete}
 use native.Mathlib.Omega.{arith}
 use lib.Dec.{eqb, leb}
+use Rattle.std.proofs.lemmas.Bool.Decides.{nat_tests}
 use borrow.Author.Tests.{eqb-true, eqb-false}
 use Rattle.register.specs.Steps.{read, step}
 use Rattle.register.specs.Calls.{refused}
@@ -31,24 +32,20 @@ malformed_or_not : (n : ℕ) (w : Written) → Dec (Malformed n w)
 malformed_or_not n w =
     go (ℕ_discrete w.kind 0) (ℕ_discrete w.kind 1) (ℕ_discrete w.process n) (ℕ_discrete w.len 0)
   where
-    no_length : w.len ≡ 0 → (w.kind ≢ 0 → w.kind ≢ 1 → ⊥) → ¬ Malformed n w
-    no_length l d (another_kind x y) = d x y
-    no_length l d (length_of_step x y) = y l
-    no_length l d (length_of_read x y z) = z l
+    only : (w.kind ≢ 0 → w.kind ≡ 1) → (w.kind ≡ 1 → w.len ≡ 0) → (w.kind ≡ 0 → w.process ≢ n → w.len ≡ 0)
+        → ¬ Malformed n w
+    only x y z (another_kind d e) = e (x d)
+    only x y z (length_of_step d e) = e (y d)
+    only x y z (length_of_read d e f) = f (z d e)
 
     go : Dec (w.kind ≡ 0) → Dec (w.kind ≡ 1) → Dec (w.process ≡ n) → Dec (w.len ≡ 0)
         → Dec (Malformed n w)
     go (no e) (no f) p l = yes (another_kind e f)
     go (no e) (yes f) p (no l) = yes (length_of_step f l)
-    go (no e) (yes f) p (yes l) = no (no_length l (λ x y. y f))
     go (yes e) f (no p) (no l) = yes (length_of_read e p l)
-    go (yes e) f (no p) (yes l) = no (no_length l (λ x y. x e))
-    go (yes e) f (yes p) l = no (writers e p)
-      where
-        writers : w.kind ≡ 0 → w.process ≡ n → ¬ Malformed n w
-        writers e p (another_kind x y) = x e
-        writers e p (length_of_step x y) = omega (arith, e, x)
-        writers e p (length_of_read x y z) = y p
+    go (no e) (yes f) p (yes l) = no (only (omega arith) (omega arith) (omega arith))
+    go (yes e) f (no p) (yes l) = no (only (omega arith) (omega arith) (omega arith))
+    go (yes e) f (yes p) l = no (only (omega arith) (omega arith) (omega arith))
 
 module _ (b : List ℕ) (s : State) (w : Written) (k : ℕ) where
   abbrev next_values : List ℕ
@@ -70,11 +67,7 @@ module _ (b : List ℕ) (s : State) (w : Written) (k : ℕ) where
       (numbers.writes s.area next_values k)
     where
       begins : w.kind ≡ 0
-      begins = go (ℕ_discrete w.kind 0)
-        where
-          go : Dec (w.kind ≡ 0) → w.kind ≡ 0
-          go (yes e) = e
-          go (no e) = absurd (d (another_kind e (eqb-false w.kind 1 ex)))
+      begins = grind (arith, nat_tests, another_kind)
 
       too_many : Says (leb (s.used + w.len) (values b)) (TooMany b s w)
       too_many =
@@ -89,13 +82,9 @@ module _ (b : List ℕ) (s : State) (w : Written) (k : ℕ) where
     where
       go : Dec (Malformed (readers b) w)
           → ((answer_of b s (asked (readers b) w)).number ≡ k) ↔ Given (move_rows b s w) k
-      go (yes m) =
-          subst (λ y. ((answer_of b s y).number ≡ k) ↔ Given (move_rows b s w) k)
-          (sym (asks_nothing (readers b) w m))
-          (holds m)
+      go (yes m) = rw (asks_nothing (readers b) w m) (holds m)
       go (no d) =
-          subst (λ y. ((answer_of b s y).number ≡ k) ↔ Given (move_rows b s w) k) (sym (asks_for (readers b) w d))
-          (passes d (called d (eqb w.kind 1) (eqb w.process (readers b)) refl refl))
+          rw (asks_for (readers b) w d) (passes d (called d (eqb w.kind 1) (eqb w.process (readers b)) refl refl))
 
 pub run_numbers : RunNumbers
 run_numbers = record { begins = begin_number; moves = move_number }

@@ -2,21 +2,17 @@
 ghost use Rattle.std.specs.Prelude.{◌≡◌, ◌+◌, ◌*◌, ◌≤◌, length};
 ghost use Rattle.runfile.specs.Bytes.{words_at};
 ghost use Rattle.runfile.specs.RunFile.{values_at};
-ghost use Rattle.text.specs.Sheet.{pasted};
 
 use runfile::values;
 
-// The k values from value `used` on go to the front of `words`.
-pub fn take_values(file: &[u8], used: u32, words: &mut [u64], k: usize)
-    requires { (used + k ≤ 4294967295) × (k ≤ length words.old) }
-    ensures { words.new ≡ pasted words.old 0
-        (words_at k file.now (values_at file.now + 8 * used)) }
+// Fills `words` with the values from value `used` on.
+#[tactic(auto, using(crate::proofs::Values::words_more, std::proofs::lemmas::Grind::common_steps))]
+pub fn take_values(file: &[u8], used: u32, words: &mut [u64])
+    requires { used + length words.old ≤ 4294967295 }
+    ensures { words.new ≡ words_at (length words.old) file.now (values_at file.now + 8 * used) }
 {
-    let mut i = 0;
-    let mut at = used;
-    while i < k {
-        words[i] = values::value(file, at);
-        i += 1;
-        at += 1;
+    // By index: after a loop over `iter_mut` a proof knows no element.
+    for i in 0..words.len() {
+        words[i] = values::value(file, used + i as u32);
     }
 }

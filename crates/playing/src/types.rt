@@ -1,10 +1,9 @@
 // What a move came to, by value.
+use answer::Answer;
 
-// The call's number, whether an operation ended, the age, and how many values are used up then.
-#[derive(Clone, Copy)]
+// The call's answer, and how many values are used up then.
+#[derive(Clone, Copy, Debug, PartialEq, Eq)]
 pub struct Played {
-    pub number: u64,
-    pub ended: bool,
-    pub age: u64,
+    pub answer: Answer,
     pub used: u64,
 }

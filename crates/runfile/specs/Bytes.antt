@@ -1,5 +1,10 @@
--- Little-endian numbers in a list of bytes. Assumes nothing.
+-- Bytes of a list, and little-endian numbers in it. Assumes nothing.
 use Rattle.std.specs.Prelude.{List, [], ◌∷◌, ℕ, zero, suc, ◌+◌, ◌*◌, get_or}
+
+-- k bytes from place i on: past the end there are zeros
+abbrev pub bytes_at : ℕ → List ℕ → ℕ → List ℕ
+bytes_at zero b i = []
+bytes_at (suc k) b i = get_or b i 0 ∷ bytes_at k b (suc i)
 
 -- k bytes from place i on, the lowest first
 abbrev pub number_at : ℕ → List ℕ → ℕ → ℕ

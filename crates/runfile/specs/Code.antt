@@ -1,13 +1,11 @@
 -- What the code's own types stand for in the definitions, and what its functions share. Assumes nothing.
-use Rattle.std.specs.Prelude.{Bool, List, ℕ, take, drop}
+use Rattle.std.specs.Prelude.{Bool, List, ℕ, take, drop, Option, None, Some}
 use Rattle.register.specs.Steps.{read, step}
 use Rattle.runfile.specs.RunFile.{readers, capacity, starting_length, moves, moves_at, values}
 use Rattle.runfile.specs.RunFile.{values_at, file_tests}
 use Rattle.runfile.specs.RunFile.{Written, Asked, nothing, values_for, move}
 use Rattle.runfile.specs.declared.types.Header.{Header}
 use Rattle.runfile.specs.declared.types.Written as code_written
-use Rattle.runfile.specs.declared.types.Asked as code_asked
-use Rattle.runfile.specs.declared.types.Asked.TheVariants as variants
 use Rattle.runfile.specs.declared.types.Call as code_call
 use Rattle.runfile.specs.declared.types.Call.TheVariants as calls
 
@@ -43,6 +41,6 @@ as_call (calls.Values k) = values_for k
 as_call (calls.Read p) = move (read p)
 as_call (calls.Step p) = move (step p)
 
-abbrev pub as_asked : code_asked.Asked → Asked
-as_asked variants.Nothing = nothing
-as_asked (variants.Call x) = as_call x
+abbrev pub as_asked : Option code_call.Call → Asked
+as_asked None = nothing
+as_asked (Some x) = as_call x

@@ -1,40 +1,27 @@
-// Little-endian numbers in any bytes. Nothing outside them is read: past their end there are zeros.
-ghost use Rattle.std.specs.Prelude.{◌≡◌, ◌+◌, ◌≤◌};
-ghost use Rattle.runfile.specs.Bytes.{number_at};
+// Bytes at a place in any bytes. Nothing outside them is read: past their end there are zeros.
+ghost use Rattle.std.specs.Prelude.{◌≡◌, get_or};
+ghost use Rattle.runfile.specs.Bytes.{bytes_at, number_at};
+
+use std::array;
+
+// K bytes from a place on.
+pub fn bytes_at<const K: usize>(bytes: &[u8], at: usize) -> [u8; K]
+    ensures { result ≡ bytes_at K bytes.now at }
+{
+    let rest = bytes.get(at..).unwrap_or(&[]);
+    array::from_fn(|i| byte_at(rest, i))
+}
 
 // The byte at a place.
-pub fn one_at(bytes: &[u8], at: usize) -> u8
-    ensures { result ≡ number_at 1 bytes.now at }
+fn byte_at(bytes: &[u8], at: usize) -> u8
+    ensures { result ≡ get_or bytes.now at 0 }
 {
-    if at < bytes.len() { bytes[at] } else { 0 }
+    bytes.get(at).copied().unwrap_or(0)
 }
 
-// The two bytes from a place on, the lower first.
-pub fn two_at(bytes: &[u8], at: usize) -> u16
-    requires { at + 2 ≤ 9223372036854775808 }
-    ensures { result ≡ number_at 2 bytes.now at }
-{
-    let low = one_at(bytes, at);
-    let high = one_at(bytes, at + 1);
-    low as u16 + 256 * (high as u16)
-}
-
-// The four bytes from a place on, the lowest first.
-pub fn four_at(bytes: &[u8], at: usize) -> u32
-    requires { at + 4 ≤ 9223372036854775808 }
+// The number of the four bytes from a place on, the lowest first.
+pub fn number_at(bytes: &[u8], at: usize) -> u32
     ensures { result ≡ number_at 4 bytes.now at }
 {
-    let low = two_at(bytes, at);
-    let high = two_at(bytes, at + 2);
-    low as u32 + 65536 * (high as u32)
-}
-
-// The eight bytes from a place on, the lowest first.
-pub fn eight_at(bytes: &[u8], at: usize) -> u64
-    requires { at + 8 ≤ 9223372036854775808 }
-    ensures { result ≡ number_at 8 bytes.now at }
-{
-    let low = four_at(bytes, at);
-    let high = four_at(bytes, at + 4);
-    low as u64 + 4294967296 * (high as u64)
+    u32::from_le_bytes(bytes_at(bytes, at))
 }

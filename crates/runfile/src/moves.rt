@@ -3,36 +3,30 @@ ghost use Rattle.std.specs.Prelude.{◌≡◌};
 ghost use Rattle.runfile.specs.RunFile.{written, asked};
 ghost use Rattle.runfile.specs.Code.{as_written, as_asked};
 
-use crate::bytes::{one_at, two_at};
-use crate::types::{Asked, Call, Header, Written};
+use crate::bytes::bytes_at;
+use crate::kind::Kind;
+use crate::types::{Call, Header, Written};
 
 // Move k.
 pub fn written_move(file: &[u8], k: u32) -> Written
     ensures { as_written result ≡ written file.now k }
 {
-    let at = Header::BYTES + 4 * (k as usize);
+    let [process, kind, low, high] = bytes_at::<4>(file, Header::BYTES + 4 * k as usize);
     Written {
-        process: one_at(file, at) as u64,
-        kind: one_at(file, at + 1) as u64,
-        len: two_at(file, at + 2) as u64,
+        process: u64::from(process),
+        kind: u64::from(kind),
+        len: u64::from(u16::from_le_bytes([low, high])),
     }
 }
 
-// What a move asks for: kind 0 begins, kind 1 steps, and a length stands only with a begin of process n.
-pub fn asked(n: u64, process: u64, kind: u64, len: u64) -> Asked
-    ensures { as_asked result ≡ asked n (record { process = process; kind = kind; len = len }) }
+// The call that a move asks for, if it is not malformed: a length stands only with a begin of process n.
+pub fn asked(n: u64, w: Written) -> Option<Call>
+    ensures { as_asked result ≡ asked n (as_written w) }
 {
-    if kind == 0 {
-        if process == n {
-            return Asked::Call(Call::Values(len));
-        }
-        if len == 0 {
-            return Asked::Call(Call::Read(process));
-        }
-        return Asked::Nothing;
+    match Kind::try_from(w.kind) {
+        Ok(Kind::Begin) if w.process == n => Some(Call::Values(w.len)),
+        Ok(Kind::Begin) if w.len == 0 => Some(Call::Read(w.process)),
+        Ok(Kind::Step) if w.len == 0 => Some(Call::Step(w.process)),
+        _ => None,
     }
-    if (kind == 1) & (len == 0) {
-        return Asked::Call(Call::Step(process));
-    }
-    Asked::Nothing
 }

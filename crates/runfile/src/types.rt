@@ -1,8 +1,11 @@
 // What stands in a run file, by value.
+ghost use Rattle.std.specs.Prelude.{List, ◌≡◌, ℕ, length as List·length};
+ghost use Rattle.theory.specs.Lists.{all};
+ghost use Rattle.runfile.specs.Code.{header_of, size_tests, part_tests};
 
 // The counts and offsets of a header: N, C, the starting length, the moves and where they begin, the values and where
 // they begin.
-#[derive(Clone, Copy)]
+#[derive(Clone, Copy, Debug, PartialEq, Eq)]
 pub struct Header {
     pub n: u32,
     pub c: u32,
@@ -30,27 +33,39 @@ impl Header {
     pub const VALUES: usize = 20;
 
     pub const VALUES_AT: usize = 24;
+
+    // Whether N, C and the starting length are in range.
+    pub(crate) fn sizes_pass(self) -> bool
+        ensures { (b : List ℕ) → self ≡ header_of b → result ≡ all (size_tests b) }
+    {
+        (1..=8).contains(&self.n) && (1..=32).contains(&self.c) && self.starting <= self.c
+    }
+
+    // Whether the moves and the values are few enough, stand where they must and fill a file of this length.
+    pub(crate) fn parts_pass(self, length: usize) -> bool
+        ensures { (b : List ℕ) → self ≡ header_of b → length ≡ List·length b → result ≡ all (part_tests b) }
+    {
+        let moves = self.moves as usize;
+        let values = self.values as usize;
+        moves <= 4000
+            && self.moves_at as usize == Header::BYTES
+            && values <= 1000
+            && self.starting <= self.values
+            && self.values_at as usize == Header::BYTES + 4 * moves
+            && length == Header::BYTES + 4 * moves + 8 * values
+    }
 }
 
-// A move as its four bytes have it.
-#[derive(Clone, Copy)]
+// A move as its four bytes have it. The kind stays a number: one that no kind has is printed, and refused by 12.
+#[derive(Clone, Copy, Debug, PartialEq, Eq)]
 pub struct Written {
     pub process: u64,
     pub kind: u64,
     pub len: u64,
 }
 
-// What a move asks for.
-#[derive(Clone, Copy)]
-pub enum Asked {
-    // It is malformed.
-    Nothing,
-    // A call.
-    Call(Call),
-}
-
 // A call that a move asks for.
-#[derive(Clone, Copy)]
+#[derive(Clone, Copy, Debug, PartialEq, Eq)]
 pub enum Call {
     // A begin of a write of so many values.
     Values(u64),

@@ -1,6 +1,6 @@
 -- A finished read of L words costs L + 1, and each move pays for 1: so a run's reads cost at most its moves.
 -- Assumes nothing.
-use mathlib.Core.Path.{◌≡◌, refl, sym, subst, ◌∙◌}
+use mathlib.Core.Path.{◌≡◌, refl, sym, ◌∙◌}
 use mathlib.Core.Bool.{cond}
 use mathlib.Core.List.{List, [], ◌∷◌, ◌++◌}
 use Prim.Native.Nat.{ℕ, suc, ◌+◌, ◌≤◌}
@@ -82,17 +82,8 @@ reads_cost n a (x ∷ l) kept (then z rest) =
     let o : Opened a x = opened a x z in
     let b = (answered a x).area in
     let kept' : readers b ≡ n = after_head o 1 (lit< tt) ∙ kept in
-    let m' = apply (memory a) o.stores in
-    let seen_so : costs (got_of (event a x).what) + sum (readers a) (paid m') ≤ sum (readers a)
-    (paid (memory a)) + 1 =
-    subst (λ d. costs (got_of d.what) + sum (readers a) (paid m') ≤ sum (readers a) (paid (memory a)) + 1)
-    (sym (observed a x o)) (pays (does o).0) in
-    let with_n : costs (got_of (event a x).what) + sum n (paid m') ≤ sum n (paid (memory a)) + 1 =
-    subst (λ k. costs (got_of (event a x).what) + sum k (paid m') ≤ sum k (paid (memory a)) + 1) kept seen_so in
     let one : costs (got_of (event a x).what) + sum n (paid (memory b)) ≤ sum n (paid (memory a)) + 1 =
-    subst (λ m. costs (got_of (event a x).what) + sum n (paid m) ≤ sum n (paid (memory a)) + 1)
-    (sym (after_memory o))
-    with_n in
+    rw (observed a x o, after_memory o, sym kept) (pays (does o).0) in
     omega (
       arith,
       one,

@@ -1,5 +1,5 @@
 -- A run file's run is the run of its accepted calls: the area, the answers and the tally, so the demands speak of it.
---     refused_stays, Called, one_call, no_call, by_number, one   one move: one accepted call, or none
+--     Called, one_call, no_call, called, one                     one move: one accepted call, or none
 --     joined, after_, answers_, accepted_joined, behind          one list of calls behind another
 --     whole, whole_got, nothing_paid                             a whole run, and what its reads got
 --     plays_a_run                                                the promise
@@ -7,12 +7,12 @@
 -- Assumes nothing.
 use mathlib.Core.Path.{◌≡◌, refl, sym, ap, subst, ◌∙◌}
 use mathlib.Core.Logic.{◌≢◌}
-use mathlib.Core.Bool.{Bool, true, false, cond}
+use mathlib.Core.Bool.{true, cond}
 use mathlib.Core.List.{List, [], ◌∷◌, ◌++◌}
 use Prim.Native.Nat.{ℕ, zero, suc, ◌+◌, ◌*◌, ◌≤◌}
-use native.Mathlib.Decide.{ℕ_discrete}
 use native.Mathlib.Omega.{arith}
 use lib.Dec.{eqb, leb}
+use Rattle.std.proofs.lemmas.Bool.Decides.{nat_tests}
 use lib.ListN.{length}
 use borrow.Author.Tests.{eq-eqb, ne_eqb}
 use Rattle.theory.specs.Table.{total}
@@ -22,7 +22,7 @@ use Rattle.register.specs.Steps.{Move, write}
 use Rattle.register.specs.Calls.{Answer, refused, fresh, made, answered, after}
 use Rattle.atomic.specs.Seen.{Accepted, none, then, events}
 use Rattle.theory.specs.History.{nothing_yet}
-use Rattle.theory.proofs.Tests.{if_true}
+use Rattle.theory.proofs.Tests.{if_true, if_equal}
 use Rattle.atomic.proofs.Intact.{keeps}
 use Rattle.atomic.proofs.Making.{fresh_length, fresh_readers, at_desk}
 use Rattle.atomic.proofs.Made.{fresh_memory}
@@ -41,10 +41,6 @@ use Rattle.playing.proofs.Starting.{short, in_range, well, started}
 
 -- ---- one move
 
--- a refused call leaves the area
-refused_stays : (a : List ℕ) (x : Move) → (answered a x).number ≢ 0 → (answered a x).area ≡ a
-refused_stays a x d = ((keeps a x).0 d).area
-
 -- calls that were accepted one after another, the area that they leave, and their answers among these
 pub record Called (a a' : List ℕ) (l : List Move) (r : List Answer) : Type 0 where
   pub accepted : Accepted a l
@@ -60,35 +56,27 @@ one_call a x z = record { accepted = then z none; area = refl; answers = sym (rw
 no_call : (a : List ℕ) (x : Answer) → x.number ≢ 0 → x.area ≡ a → Called a x.area [] (x ∷ [])
 no_call a x d e = record { accepted = none; area = sym e; answers = sym (rw (ne_eqb _ _ d)) }
 
-module _ (b : List ℕ) (s : State) where
-  by_number : (x : Answer) (l : List Move) → (x.number ≡ 0 → Called s.area x.area l (x ∷ []))
-      → (x.number ≢ 0 → x.area ≡ s.area)
-      → Called s.area x.area (cond (eqb x.number 0) l []) (x ∷ [])
-  by_number x l yes_so not_so =
-      go (ℕ_discrete x.number 0)
-    where
-      go : Dec (x.number ≡ 0) → Called s.area x.area (cond (eqb x.number 0) l []) (x ∷ [])
-      go (yes e) =
-          subst (λ t. Called s.area x.area (cond t l []) (x ∷ [])) (sym (eq-eqb _ _ e)) (yes_so e)
-      go (no d) =
-          subst (λ t. Called s.area x.area (cond t l []) (x ∷ [])) (sym (ne_eqb _ _ d))
-          (no_call s.area x d (not_so d))
+-- a call is one accepted call or none
+called : (a : List ℕ) (x : Move)
+    → Called a (answered a x).area (cond (eqb (answered a x).number 0) (x ∷ []) []) (answered a x ∷ [])
+called a x =
+    if_equal (λ l. Called a (answered a x).area l (answered a x ∷ [])) (answered a x).number 0 (x ∷ []) []
+    (one_call a x) (λ d. no_call a (answered a x) d ((keeps a x).0 d).area)
 
-  one : (y : Asked)
-      → Called s.area (answer_of b s y).area (cond (eqb (answer_of b s y).number 0) (call_of b s y) [])
-      (answer_of b s y ∷ [])
-  one nothing = no_call s.area (refused 12 s.area) (λ e. absurd (omega arith)) refl
-  one (values_for k) =
-      let x : Move = write (words_at k b (values_at b + 8 * s.used)) in
-      if_true P (leb (s.used + k) (values b)) (answered s.area x) (refused 13 s.area)
-      (λ e. by_number (answered s.area x) (x ∷ []) (one_call s.area x) (refused_stays s.area x))
-      (λ e. no_call s.area (refused 13 s.area) (λ z. absurd (omega arith)) refl)
-    where
-      P : Answer → Type 0
-      P z =
-          Called s.area z.area
-          (cond (eqb z.number 0) (write (words_at k b (values_at b + 8 * s.used)) ∷ []) []) (z ∷ [])
-  one (move x) = by_number (answered s.area x) (x ∷ []) (one_call s.area x) (refused_stays s.area x)
+one : (b : List ℕ) (s : State) (y : Asked)
+    → Called s.area (answer_of b s y).area (cond (eqb (answer_of b s y).number 0) (call_of b s y) [])
+    (answer_of b s y ∷ [])
+one b s nothing = no_call s.area (refused 12 s.area) (λ e. absurd (omega arith)) refl
+one b s (move x) = called s.area x
+one b s (values_for k) =
+    if_true P (leb (s.used + k) (values b)) (answered s.area x) (refused 13 s.area) (λ e. called s.area x)
+    (λ e. no_call s.area (refused 13 s.area) (λ z. absurd (omega arith)) refl)
+  where
+    x : Move
+    x = write (words_at k b (values_at b + 8 * s.used))
+
+    P : Answer → Type 0
+    P z = Called s.area z.area (cond (eqb z.number 0) (x ∷ []) []) (z ∷ [])
 
 -- ---- the whole run
 
@@ -110,11 +98,7 @@ answers_joined a a' (x ∷ l) k e =
 
 accepted_joined : (x : Answer) (r : List Answer) → accepted_only (x ∷ []) ++ accepted_only r ≡ accepted_only
     (x ∷ r)
-accepted_joined x r = go (eqb x.number 0)
-  where
-    go : (t : Bool) → cond t (x ∷ []) [] ++ accepted_only r ≡ cond t (x ∷ accepted_only r) (accepted_only r)
-    go true = refl
-    go false = refl
+accepted_joined x r = grind (arith, nat_tests)
 
 behind : (a a' a'' : List ℕ) (l k : List Move) (x : Answer) (r : List Answer) → Called a a' l (x ∷ [])
     → Called a' a'' k r → Called a a'' (l ++ k) (x ∷ r)

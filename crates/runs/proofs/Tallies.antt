@@ -1,10 +1,9 @@
 -- The tally of answers: how many were accepted, how many there are, the greatest age. Assumes nothing.
 use mathlib.Core.Path.{◌≡◌, refl, ap}
-use mathlib.Core.Bool.{Bool, true, false}
 use mathlib.Core.List.{List, [], ◌∷◌}
 use Prim.Native.Nat.{ℕ, zero, suc, ◌+◌, max}
 use native.Mathlib.Omega.{arith}
-use lib.Dec.{eqb}
+use Rattle.std.proofs.lemmas.Bool.Decides.{nat_tests}
 use lib.ListN.{length}
 use Rattle.register.specs.Steps.{Move}
 use Rattle.register.specs.Calls.{Answer, answered}
@@ -22,22 +21,10 @@ pub record Adds (t u : Tally) (l : List Answer) : Type 0 where
 adds_one : (t u : Tally) (x : Answer) (l : List Answer) → Adds (counted t x.number x.age) u l
     → Adds t u (x ∷ l)
 unfolding counted
-adds_one t u x l = go (eqb x.number 0) refl
-  where
-    go : (so : Bool) → eqb x.number 0 ≡ so → Adds (counted t x.number x.age) u l → Adds t u (x ∷ l)
-    go true e h =
-        let a = rw e at h.accepted in
-        let b = rw e at h.all in
-        let c = rw e at h.greatest in
-        record { accepted = rw e (omega arith); all = omega arith; greatest = rw e (omega arith) }
-    go false e h =
-        let a = rw e at h.accepted in
-        let b = rw e at h.all in
-        let c = rw e at h.greatest in
-        record { accepted = rw e (omega arith); all = omega arith; greatest = rw e (omega arith) }
+adds_one t u x l h = grind (arith, nat_tests)
 
 pub adds : (t : Tally) (l : List Answer) → Adds t (tally_of t l) l
-adds t [] = record { accepted = omega arith; all = omega arith; greatest = omega arith }
+adds t [] = grind arith
 adds t (x ∷ l) = adds_one t _ x l (adds (counted t x.number x.age) l)
 
 -- ---- how many answers there are

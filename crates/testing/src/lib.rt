@@ -3,14 +3,15 @@
 // is undamaged.
 ghost use Rattle.std.specs.Prelude.{◌≡◌, ◌≤◌, length};
 ghost use Rattle.theory.specs.Lists.{all};
-ghost use Rattle.register.specs.Area.{is_area};
-ghost use Rattle.testing.specs.Test.{fit_tests, test_number};
+ghost use Rattle.testing.specs.Test.{fit_tests, named, test_result};
 
+use answer::refusals::Refusal;
+use area::lent::View;
 use area::{Layout, header};
 
 mod sound;
 
-// Whether words 3 to 6 and the number of words are those of a layout.
+// Whether words 3 to 6 and the number of words are those of a layout: before, there is no `View` of both.
 fn fits(area: &[u64], p: Layout) -> bool
     requires { 8 ≤ length area.now }
     ensures { result ≡ all (fit_tests p area.now) }
@@ -22,33 +23,35 @@ fn fits(area: &[u64], p: Layout) -> bool
     total & slots & desks & writer & (area.len() == p.total)
 }
 
-// Whether words are an area. N and C are taken as sizes once they are in range.
-fn is_area(area: &[u64]) -> bool
-    ensures { result ≡ is_area area.now }
+// The layout that words name, if they are an area.
+#[tactic(auto, unfolding(area::specs::Words::laid, register::specs::Area::is_area))]
+fn named(area: &[u64]) -> Option<Layout>
+    ensures { result ≡ named area.now }
 {
     if area.len() < Layout::HEADER {
-        return false;
+        return None;
     }
+    let form = area[Layout::FORM];
     let n = area[Layout::READERS];
     let c = area[Layout::CAPACITY];
-    let form = area[Layout::FORM];
-    if !header::known(form, n, c) {
-        return false;
-    }
-    let p = Layout::new(form, n as usize, c as usize);
-    fits(area, p)
+    let p = header::laid(form, n, c)?;
+    fits(area, p).then_some(p)
 }
 
-// 1 not an area, 2 damaged, 0 neither.
-pub fn tested(area: &[u64]) -> u64
-    ensures { result ≡ test_number area.now }
+// The layout that an undamaged area names, or why words are none.
+#[tactic(auto, unfolding(crate::specs::Test::test_result), using(crate::proofs::AreaTest::undamaged_is))]
+pub fn tested(area: &[u64]) -> Result<Layout, Refusal>
+    ensures { result ≡ test_result area.now }
 {
-    if !is_area(area) {
-        return 1;
+    let Some(layout) = named(area) else {
+        return Err(Refusal::NotAnArea);
+    };
+    let view = View {
+        words: area,
+        layout,
+    };
+    if !sound::undamaged(&view) {
+        return Err(Refusal::Damaged);
     }
-    let p = header::layout(area);
-    if !sound::undamaged(area, p) {
-        return 2;
-    }
-    0
+    Ok(layout)
 }

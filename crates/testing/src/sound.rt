@@ -1,113 +1,100 @@
-// Test 2: whether an area is undamaged, from the front, a function for each part.
+// Test 2: whether an area is undamaged, from the front, a function for each part. Phases stay numbers here: the test is
+// of any number, and its parts are joined without a branch.
 ghost use Rattle.std.specs.Prelude.{◌≡◌, ◌+◌, ◌<◌};
 ghost use Rattle.theory.specs.Lists.{all, every};
 ghost use Rattle.register.specs.Area.{memory_tests};
 ghost use Rattle.register.specs.Area.{word_sound, slot_sound, desk_sound, writer_sound};
-ghost use Rattle.area.specs.Words.{its_shape, Laid, Sized, memory_of};
+ghost use Rattle.area.specs.Lent.{shape_seen, memory_seen};
 
+use area::lent::View;
+use area::phases::{ReaderPhase, WriterPhase};
+use area::places::Place;
 use area::{Layout, fields};
 
 // Whether the current word, or the old word, names a slot and counts no more than the limit.
-fn word_sound(p: Layout, word: u64) -> bool
-    requires { Laid p }
-    ensures { result ≡ word_sound (its_shape p) word }
+fn word_sound(view: &View<'_>, word: u64) -> bool
+    ensures { result ≡ word_sound (shape_seen view.now) word }
 {
-    let slots = p.n as u64 + 2;
-    let limit = p.limit;
-    (fields::index(word) < slots) & (fields::counter(word) <= limit)
+    let slots = view.layout.n as u64 + 2;
+    (fields::index(word) < slots) & (fields::counter(word) <= view.layout.limit)
 }
 
 // Whether slot s is undamaged.
-fn slot_sound(area: &[u64], p: Layout, s: usize) -> bool
-    requires { Sized p area.now × (s < p.n + 2) }
-    ensures { result ≡ slot_sound (its_shape p) (memory_of p area.now) s }
+#[tactic(auto, unfolding(register::specs::Area::slot_sound))]
+fn slot_sound(view: &View<'_>, s: usize) -> bool
+    requires { s < view.now.layout.n + 2 }
+    ensures { result ≡ slot_sound (shape_seen view.now) (memory_seen view.now) s }
 {
-    let limit = p.limit;
-    let words = p.c as u64;
-    let r_start = fields::slot_field(area, p, s, Layout::R_START);
-    let r_end = fields::slot_field(area, p, s, Layout::R_END);
-    let size = fields::slot_field(area, p, s, Layout::SIZE);
+    let limit = view.layout.limit;
+    let words = view.layout.c as u64;
+    let r_start = view.get(Place::SlotField(Layout::R_START, s));
+    let r_end = view.get(Place::SlotField(Layout::R_END, s));
+    let size = view.get(Place::SlotField(Layout::SIZE, s));
     (r_start <= limit) & (r_end <= limit) & (size <= words)
 }
 
 // Whether every slot is undamaged.
-fn slots_sound(area: &[u64], p: Layout) -> bool
-    requires { Sized p area.now }
-    ensures { result ≡ every (p.n + 2) 0 (slot_sound (its_shape p) (memory_of p area.now)) }
+fn slots_sound(view: &View<'_>) -> bool
+    ensures { result ≡ every (view.now.layout.n + 2) 0 (slot_sound (shape_seen view.now) (memory_seen view.now)) }
 {
-    let slots = p.n + 2;
-    for s in 0..slots {
-        if !slot_sound(area, p, s) {
-            return false;
-        }
-    }
-    true
+    let slots = view.layout.n + 2;
+    (0..slots).all(|s| slot_sound(view, s))
 }
 
 // Whether the desk of reader r is undamaged.
-fn desk_sound(area: &[u64], p: Layout, r: usize) -> bool
-    requires { Sized p area.now × (r < p.n) }
-    ensures { result ≡ desk_sound (its_shape p) (memory_of p area.now) r }
+#[tactic(auto, unfolding(register::specs::Area::desk_sound))]
+fn desk_sound(view: &View<'_>, r: usize) -> bool
+    requires { r < view.now.layout.n }
+    ensures { result ≡ desk_sound (shape_seen view.now) (memory_seen view.now) r }
 {
-    let slots = p.n as u64 + 2;
-    let words = p.c as u64;
-    let phase = fields::desk_field(area, p, r, Layout::PHASE);
-    let last = fields::desk_field(area, p, r, Layout::LAST);
-    let pos = fields::desk_field(area, p, r, Layout::POS);
-    let len = fields::desk_field(area, p, r, Layout::LEN);
-    let finished = fields::desk_field(area, p, r, Layout::FINISHED);
-    let copying = (phase != 5) | (pos < len);
-    (phase <= 5) & (last < slots) & (pos <= len) & (len <= words) & (finished <= 1) & copying
+    let slots = view.layout.n as u64 + 2;
+    let words = view.layout.c as u64;
+    let phase = view.get(Place::DeskField(Layout::PHASE, r));
+    let last = view.get(Place::DeskField(Layout::LAST, r));
+    let pos = view.get(Place::DeskField(Layout::POS, r));
+    let len = view.get(Place::DeskField(Layout::LEN, r));
+    let finished = view.get(Place::DeskField(Layout::FINISHED, r));
+    let known = phase <= ReaderPhase::Copies as u64;
+    let copying = (phase != ReaderPhase::Copies as u64) | (pos < len);
+    known & (last < slots) & (pos <= len) & (len <= words) & (finished <= 1) & copying
 }
 
 // Whether every reader's desk is undamaged.
-fn desks_sound(area: &[u64], p: Layout) -> bool
-    requires { Sized p area.now }
-    ensures { result ≡ every p.n 0 (desk_sound (its_shape p) (memory_of p area.now)) }
+fn desks_sound(view: &View<'_>) -> bool
+    ensures { result ≡ every view.now.layout.n 0 (desk_sound (shape_seen view.now) (memory_seen view.now)) }
 {
-    let desks = p.n;
-    for r in 0..desks {
-        if !desk_sound(area, p, r) {
-            return false;
-        }
-    }
-    true
+    let desks = view.layout.n;
+    (0..desks).all(|r| desk_sound(view, r))
 }
 
 // Whether the writer's desk is undamaged.
-fn writer_sound(area: &[u64], p: Layout) -> bool
-    requires { Sized p area.now }
-    ensures { result ≡ writer_sound (its_shape p) (memory_of p area.now) }
+#[tactic(auto, unfolding(register::specs::Area::writer_sound))]
+fn writer_sound(view: &View<'_>) -> bool
+    ensures { result ≡ writer_sound (shape_seen view.now) (memory_seen view.now) }
 {
-    let slots = p.n as u64 + 2;
-    let words = p.c as u64;
-    let phase = fields::writer_field(area, p, Layout::WRITER_PHASE);
-    let last_slot = fields::writer_field(area, p, Layout::LAST_SLOT);
-    let in_hand = fields::writer_field(area, p, Layout::IN_HAND);
-    let pos = fields::writer_field(area, p, Layout::WRITER_POS);
-    let len = fields::writer_field(area, p, Layout::WRITER_LEN);
-    let old = word_sound(p, fields::writer_field(area, p, Layout::OLD_WORD));
-    let ended = fields::writer_field(area, p, Layout::WRITES_ENDED);
-    let copying = (phase != 2) | (pos < len);
-    let looking = (phase != 1) | (pos == 0);
-    let room = (phase == 0) | (ended < fields::MOST_WRITES);
-    let indexes = (phase <= 7) & (last_slot < slots) & (in_hand < slots);
+    let slots = view.layout.n as u64 + 2;
+    let words = view.layout.c as u64;
+    let phase = view.get(Place::WriterField(Layout::WRITER_PHASE));
+    let last_slot = view.get(Place::WriterField(Layout::LAST_SLOT));
+    let in_hand = view.get(Place::WriterField(Layout::IN_HAND));
+    let pos = view.get(Place::WriterField(Layout::WRITER_POS));
+    let len = view.get(Place::WriterField(Layout::WRITER_LEN));
+    let old = word_sound(view, view.get(Place::WriterField(Layout::OLD_WORD)));
+    let ended = view.get(Place::WriterField(Layout::WRITES_ENDED));
+    let known = phase <= WriterPhase::Freezes as u64;
+    let copying = (phase != WriterPhase::Fills as u64) | (pos < len);
+    let looking = (phase != WriterPhase::Looks as u64) | (pos == 0);
+    let room = (phase == WriterPhase::Idle as u64) | (ended < fields::MOST_WRITES);
+    let indexes = known & (last_slot < slots) & (in_hand < slots);
     indexes & (pos <= len) & (len <= words) & old & copying & looking & room
 }
 
 // Whether an area is undamaged.
-pub fn undamaged(area: &[u64], p: Layout) -> bool
-    requires { Sized p area.now }
-    ensures { result ≡ all (memory_tests (its_shape p) (memory_of p area.now)) }
+pub fn undamaged(view: &View<'_>) -> bool
+    ensures { result ≡ all (memory_tests (shape_seen view.now) (memory_seen view.now)) }
 {
-    if !word_sound(p, area[Layout::CURRENT]) {
-        return false;
-    }
-    if !slots_sound(area, p) {
-        return false;
-    }
-    if !desks_sound(area, p) {
-        return false;
-    }
-    writer_sound(area, p)
+    word_sound(view, view.get(Place::Current))
+        && slots_sound(view)
+        && desks_sound(view)
+        && writer_sound(view)
 }

@@ -6,7 +6,8 @@ use native.Mathlib.Nat.{suc-add}
 use native.Mathlib.Omega.{arith}
 use lib.ListN.{length, set, take, length-append}
 use Rattle.text.specs.Lines.{Text}
-use Rattle.text.specs.Sheet.{Sheet, pasted, put, sheet}
+use Rattle.text.specs.Sheet.{Sheet, pasted, put, sheet, as_sheet, Puts}
+use Rattle.text.specs.declared.Sheet as code
 
 pub pasted_length : (l : List ℕ) (i : ℕ) (t : Text) → length (pasted l i t) ≡ length l
 pasted_length [] i t = refl
@@ -39,17 +40,15 @@ put_twice s t u =
     omega arith in
     rw (ends, pasted_twice l i (min (length l) (i + length t)) t u refl)
 
--- as functions tell it, one by one
-pub then_put : (s : Sheet) (t u : Text) {r q : Sheet} → r ≡ put s t → q ≡ put r u → q ≡ put s (t ++ u)
-then_put s t u e d = d ∙ ap (λ z. put z u) e ∙ put_twice s t u
+-- as methods tell it, one by one
+pub then_puts : {s r q : code.Sheet} {t u : Text} → Puts s r t → Puts r q u → Puts s q (t ++ u)
+then_puts {s} {t = t} {u = u} p d =
+    record {
+      text = d.text ∙ ap (λ z. put z u) p.text ∙ put_twice (as_sheet s) t u;
+      same_bytes = d.same_bytes ∙ p.same_bytes;
+    }
 
 -- ---- one byte
-
-pasted_byte : (l : List ℕ) (i x : ℕ) → set l i x ≡ pasted l i (x ∷ [])
-pasted_byte [] i x = refl
-pasted_byte (y ∷ []) zero x = refl
-pasted_byte (y ∷ z ∷ l) zero x = refl
-pasted_byte (y ∷ l) (suc i) x = ap {B = List ℕ} (λ k. y ∷ k) (pasted_byte l i x)
 
 -- one byte stored, and the rest put behind it
 pub pasted_set : (l : List ℕ) (i x : ℕ) (t : Text) → i < length l
@@ -81,7 +80,7 @@ pub put_byte : (l : List ℕ) (i x : ℕ) → i < length l
 unfolding put
 put_byte l i x h =
     let ends : min (length l) (i + 1) ≡ i + 1 = omega arith in
-    rw (ends, pasted_byte l i x)
+    rw (ends, ← pasted_set l i x [] h, pasted_nothing)
 
 pub put_past : (l : List ℕ) (i : ℕ) (t : Text) → length l ≤ i → sheet l (length l) ≡ put (sheet l i) t
 unfolding put
@@ -89,8 +88,29 @@ put_past l i t h =
     let ends : min (length l) (i + length t) ≡ length l = omega arith in
     rw (ends, pasted_past l i t h)
 
-pub put_nothing : (l : List ℕ) (i : ℕ) → i ≤ length l → sheet l i ≡ put (sheet l i) []
+pub put_nothing : (l : List ℕ) (i : ℕ) → sheet l (min i (length l)) ≡ put (sheet l i) []
 unfolding put
-put_nothing l i h =
-    let ends : min (length l) (i + 0) ≡ i = omega arith in
+put_nothing l i =
+    let ends : min (length l) (i + 0) ≡ min i (length l) = omega arith in
     rw (ends, pasted_nothing l i)
+
+-- ---- what was put
+
+-- it ends inside the bytes, of which there are as many
+pub put_inside : (l : List ℕ) (i : ℕ) (t : Text) {k : List ℕ} {j : ℕ} → sheet k j ≡ put (sheet l i) t
+    → j ≤ length k
+unfolding put
+put_inside l i t {k} {j} e =
+    let many = ap (λ s. length s.bytes) e ∙ pasted_length l i t in
+    let ends = ap (λ s. s.end) e in
+    omega arith
+
+-- where there is room for all of it, it is whole
+pub put_whole : (l : List ℕ) (t : Text) {k : List ℕ} {j : ℕ} → sheet k j ≡ put (sheet l 0) t
+    → length t ≤ length l
+    → take j k ≡ t
+unfolding put
+put_whole l t {k} {j} e h =
+    let ends = ap (λ s. s.end) e in
+    let all : j ≡ length t = omega arith in
+    ap (take j) (ap (λ s. s.bytes) e) ∙ ap (λ i. take i (pasted l 0 t)) all ∙ pasted_front l t h

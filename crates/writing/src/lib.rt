@@ -1,80 +1,75 @@
 #![tactic(auto)]
 // A begin of a write, and one step of the writer by its phase.
-ghost use Rattle.std.specs.Prelude.{◌≡◌, ◌≤◌, length};
-ghost use Rattle.theory.specs.Place.{copied};
-ghost use Rattle.register.specs.Area.{write_record};
+// `Ready` and `Same` stay clauses, for the reasons beside `area::lent::Area`.
+ghost use Rattle.std.specs.Prelude.{◌≡◌};
 ghost use Rattle.register.specs.Steps.{sets_out, write_begins, writer_step};
-ghost use Rattle.area.specs.Words.{its_shape, Sized, memory_of, words_after};
-ghost use Rattle.answer.specs.Carried.{whole, Ready, carried};
+ghost use Rattle.area.specs.Lent.{shape_at, memory_at, Same, After};
+ghost use Rattle.answer.specs.Carried.{whole, Ready, carried_at};
 
 use answer::Answer;
-use area::{Layout, fields, stores};
+use answer::refusals::Refusal;
+use area::lent::Area;
+use area::phases::WriterPhase;
+use area::places::{Place, Row};
+use area::{Layout, fields};
 
 // A begin of a write with a record.
-pub fn write_begins(area: &mut [u64], p: Layout, words: &[u64]) -> Answer
-    requires { Ready p area.old }
-    ensures { whole result area.new
-        ≡ carried p p.n area.old
-        (write_begins (its_shape p) (memory_of p area.old) words.now) }
+#[tactic(auto, unfolding(answer::specs::Carried::carried))]
+pub fn write_begins(area: &mut Area<'_>, words: &[u64]) -> Answer
+    requires { Ready area.old }
+    ensures answer { whole result area.new.words.now
+        ≡ carried_at area.old.layout.n area.old
+        (write_begins (shape_at area.old) (memory_at area.old) words.now) }
+    ensures same { Same area.old area.new }
 {
-    let capacity = p.c;
-    let seen: &[u64] = area;
-    let phase = fields::writer_field(seen, p, Layout::WRITER_PHASE);
-    let ended = fields::writer_field(seen, p, Layout::WRITES_ENDED);
-    if words.len() > capacity {
-        return answer::refusal(4);
+    let phase = area.get(Place::WriterField(Layout::WRITER_PHASE));
+    let ended = area.get(Place::WriterField(Layout::WRITES_ENDED));
+    if words.len() > area.layout.c {
+        return Err(Refusal::TooLong);
     }
-    if phase != 0 {
-        return answer::refusal(5);
+    // One phase alone matters, so its number is compared.
+    if phase != WriterPhase::Idle as u64 {
+        return Err(Refusal::Busy);
     }
     if ended >= fields::MOST_WRITES {
-        return answer::refusal(7);
+        return Err(Refusal::Full);
     }
-    copies_in(area, p, words);
-    sets_out(area, p, words);
-    answer::accepted()
-}
-
-// A record's words become those of the writer's record; words past them stay.
-fn copies_in(area: &mut [u64], p: Layout, words: &[u64])
-    requires { Sized p area.old × (length words.now ≤ p.c) }
-    ensures { area.new
-        ≡ words_after p area.old (copied write_record 0 words.now) }
-{
-    let mut i = 0;
-    while i < words.len() {
-        stores::set_write_record(area, p, i, words[i]);
-        i += 1;
-    }
+    area.copy_in(Row::WriteRecord, words);
+    sets_out(area, words);
+    Ok(None)
 }
 
 // The desk's other words at a begin: len, slot in hand 0, pos 0, phase 1.
-fn sets_out(area: &mut [u64], p: Layout, words: &[u64])
-    requires { Sized p area.old }
-    ensures { area.new ≡ words_after p area.old (sets_out words.now) }
+fn sets_out(area: &mut Area<'_>, words: &[u64])
+    ensures { After area.old (sets_out words.now) area.new }
 {
-    stores::set_writer_field(area, p, Layout::WRITER_LEN, words.len() as u64);
-    stores::set_writer_field(area, p, Layout::IN_HAND, 0);
-    stores::set_writer_field(area, p, Layout::WRITER_POS, 0);
-    stores::set_writer_field(area, p, Layout::WRITER_PHASE, 1);
+    area.set(Place::WriterField(Layout::WRITER_LEN), words.len() as u64);
+    area.set(Place::WriterField(Layout::IN_HAND), 0);
+    area.set(Place::WriterField(Layout::WRITER_POS), 0);
+    area.set(
+        Place::WriterField(Layout::WRITER_PHASE),
+        WriterPhase::Looks as u64,
+    );
 }
 
-// One step of the writer; an undamaged area has no phase past 7.
-pub fn writer_step(area: &mut [u64], p: Layout) -> Answer
-    requires { Ready p area.old }
-    ensures { whole result area.new
-        ≡ carried p p.n area.old (writer_step (its_shape p) (memory_of p area.old)) }
+// One step of the writer; an undamaged area has a phase.
+#[tactic(auto, unfolding(register::specs::Steps::writer_step, answer::specs::Carried::carried))]
+pub fn writer_step(area: &mut Area<'_>) -> Answer
+    requires { Ready area.old }
+    ensures answer { whole result area.new.words.now
+        ≡ carried_at area.old.layout.n area.old
+        (writer_step (shape_at area.old) (memory_at area.old)) }
+    ensures same { Same area.old area.new }
 {
-    let phase = fields::writer_field(area, p, Layout::WRITER_PHASE);
-    match phase {
-        0 => answer::refusal(6),
-        1 => filling::looks(area, p),
-        2 => filling::fills(area, p),
-        3 => filling::sizes(area, p),
-        4 => publishing::clears_start(area, p),
-        5 => publishing::clears_end(area, p),
-        6 => publishing::publishes(area, p),
-        7 => publishing::freezes(area, p),
-        _ => answer::refusal(2),
+    // A match, and no table of closures: these steps are all that document 01 has.
+    match WriterPhase::try_from(area.get(Place::WriterField(Layout::WRITER_PHASE)))? {
+        WriterPhase::Idle => Err(Refusal::Idle),
+        WriterPhase::Looks => filling::looks(area),
+        WriterPhase::Fills => filling::fills(area),
+        WriterPhase::Sizes => filling::sizes(area),
+        WriterPhase::ClearsStart => publishing::clears_start(area),
+        WriterPhase::ClearsEnd => publishing::clears_end(area),
+        WriterPhase::Publishes => publishing::publishes(area),
+        WriterPhase::Freezes => publishing::freezes(area),
     }
 }

@@ -1,8 +1,10 @@
 -- `finishes` meets its contract, by the law of the end of a read. Assumes nothing.
+use Rattle.std.proofs.Common.{rules}
+use Rattle.area.proofs.Behind.{then}
 use Rattle.copying.proofs.Copied.{ended}
 use Rattle.copying.proofs.finishes.Goals as goal
 
-pub returns : goal.returns
-returns c =
-    ended c.args.p c.args.r c.args.area.now c.requires.0 c.requires.1
-    c.age_of-age.ensures c.set_desk_field.ensures c.set_desk_field-2.ensures
+pub returns-clause-answer : goal.returns-clause-answer
+returns-clause-answer c =
+    let stores = then _ _ c.set.ensures c.set-2.ensures in
+    ended c.args.area.now c.requires.0 (search rules) stores

@@ -2,7 +2,7 @@
 use Rattle.fresh.proofs.Filled.{filled}
 use Rattle.fresh.proofs.fill.Goals as goal
 
-pub returns : goal.returns
-returns c =
-    filled c.args.«record».now c.requires.0 c.clear.ensures c.set_numbers.ensures c.set_offsets.ensures
+pub returns-clause-words : goal.returns-clause-words
+returns-clause-words c =
+    filled c.args.«record».now c.clear.ensures.same c.clear.ensures.words c.set_numbers.ensures c.set_offsets.ensures
     c.set_starting.ensures

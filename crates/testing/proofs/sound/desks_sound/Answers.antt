@@ -1,15 +1,14 @@
--- `sound::desks_sound` meets its contract: a desk that fails, fails the whole; behind one that passes, what is left
--- to test tells the same. Assumes nothing.
-use Rattle.std.proofs.Common.{sym, ◌∙◌}
-use Rattle.testing.proofs.Runs.{one_fails, one_passes}
+-- `sound::desks_sound` meets its contract: the iterator asks each desk from 0 on. Assumes nothing.
+use Rattle.std.proofs.Common.{rules, refl}
+use borrow.Author.Tests.{tests}
+use Rattle.register.specs.Area.{desk_sound}
+use Rattle.area.specs.Words.{its_shape, memory_of}
+use Rattle.testing.proofs.Every.{all_is}
 use Rattle.testing.proofs.sound.desks_sound.Goals as goal
 
-pub returns-then-not-desk_sound : goal.returns-then-not-desk_sound
-returns-then-not-desk_sound c =
-    let l = c.loop-r in
-    sym (one_fails _ _ l.r c.loop-r-test.true (sym c.if-not-desk_sound.ensures)) ∙ l.invariant
-
-pub loop-r-preserved : goal.loop-r-preserved
-loop-r-preserved c =
-    let l = c.loop-r in
-    one_passes _ _ l.r c.loop-r-test.true (sym c.if-not-desk_sound.ensures) ∙ l.invariant
+pub returns : goal.returns
+returns c =
+    let v = c.args.view.now in
+    let test = desk_sound (its_shape v.layout) (memory_of v.layout v.words.now) in
+    all_is test v.layout.n _ _ _ c.all.ensures.ran refl
+    (λ x q k. search (rules, tests)) (λ x q k. search (rules, tests))

@@ -1,15 +1,14 @@
--- `sound::slots_sound` meets its contract: a slot that fails, fails the whole; behind one that passes, what is left
--- to test tells the same. Assumes nothing.
-use Rattle.std.proofs.Common.{sym, ◌∙◌}
-use Rattle.testing.proofs.Runs.{one_fails, one_passes}
+-- `sound::slots_sound` meets its contract: the iterator asks each slot from 0 on. Assumes nothing.
+use Rattle.std.proofs.Common.{rules, refl, ◌+◌}
+use borrow.Author.Tests.{tests}
+use Rattle.register.specs.Area.{slot_sound}
+use Rattle.area.specs.Words.{its_shape, memory_of}
+use Rattle.testing.proofs.Every.{all_is}
 use Rattle.testing.proofs.sound.slots_sound.Goals as goal
 
-pub returns-then-not-slot_sound : goal.returns-then-not-slot_sound
-returns-then-not-slot_sound c =
-    let l = c.loop-s in
-    sym (one_fails _ _ l.s c.loop-s-test.true (sym c.if-not-slot_sound.ensures)) ∙ l.invariant
-
-pub loop-s-preserved : goal.loop-s-preserved
-loop-s-preserved c =
-    let l = c.loop-s in
-    one_passes _ _ l.s c.loop-s-test.true (sym c.if-not-slot_sound.ensures) ∙ l.invariant
+pub returns : goal.returns
+returns c =
+    let v = c.args.view.now in
+    let test = slot_sound (its_shape v.layout) (memory_of v.layout v.words.now) in
+    all_is test (v.layout.n + 2) _ _ _ c.all.ensures.ran refl
+    (λ x q k. search (rules, tests)) (λ x q k. search (rules, tests))
