@@ -1,9 +1,9 @@
 -- The law of a record that is copied into a row of a lent area, word by word. Assumes nothing.
---     copying_more, copying_done     one word more, every word
---     row_within                     the places are the area's
-use Rattle.std.proofs.Common.{◌≡◌, ap, [], ◌∷◌, ◌++◌, ℕ, suc, ◌+◌, ◌<◌, ◌≤◌, arith, length}
+--     copying_more     one word more
+--     row_within       the places are the area's
+use Rattle.std.proofs.Common.{◌≡◌, ap, [], ◌∷◌, ◌++◌, ℕ, suc, ◌+◌, ◌<◌, arith, length}
 use Rattle.std.proofs.Common.{take, get_or}
-use Rattle.std.proofs.lemmas.List.{take_more, take_all, length-take-le}
+use Rattle.std.proofs.lemmas.List.{take_more, length-take-le}
 use Rattle.theory.specs.Place.{Record, Place, ◌≔◌, copied}
 use Rattle.area.specs.Lent.{After}
 use Rattle.area.specs.declared.lent.Area.{Area}
@@ -32,9 +32,6 @@ module _ (at : ℕ → Place) (v : Record) (a : Area) where
           copied_more at 0 i (take i v) (get_or v i 0) (rw (length-take-le i v (omega arith)) (omega arith)),
         )
         (then (copied at 0 (take i v)) (at i ≔ get_or v i 0 ∷ []) x e)
-
-    pub copying_done : length v ≤ i → After a (copied at 0 v) b
-    copying_done h = rw (take_all i v h) at x
 
 -- a place of a row that an area has
 pub row_within : (p : Layout) (r : Row) (j : ℕ) → RowWithin p r → j < p.c → Within p (place_in r j)

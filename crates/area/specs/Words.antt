@@ -1,5 +1,6 @@
 -- Where the words of an area stand, and what a layout of the code says of it. Assumes nothing.
-use Rattle.std.specs.Prelude.{◌≡◌, ◌&&◌, cond, List, ℕ, ◌+◌, ◌*◌, ◌≤◌, length, Option, Some, None}
+use Rattle.std.specs.Prelude.{◌≡◌, ◌&&◌, cond, List, ℕ, ◌+◌, ◌*◌, ◌≤◌, length}
+use Rattle.std.specs.Prelude.{Option, Some, None}
 use Rattle.theory.specs.Place.{Memory, Store}
 use Rattle.theory.specs.Table.{Table, offset, base, width, total, view, store}
 use Rattle.register.specs.Shape.{Shape, shape, known_form, in_range, limit, table, slots_at, desks_at, writer_at}

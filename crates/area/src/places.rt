@@ -49,8 +49,8 @@ impl Row {
 }
 
 impl Layout {
-    // The word that a place is. `Laid` stays a clause, as of `slot_word`; `Within` is the bound of an index, and says of
-    // a place what only an area can.
+    // The word that a place is. `Laid` stays a clause, as of `slot_word`; `Within` is the bound of an index, and says
+    // of a place what only an area can.
     #[inline(always)]
     pub fn word_of(self, place: Place) -> usize
         requires { Laid self × Within self place }

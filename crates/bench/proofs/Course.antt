@@ -47,8 +47,8 @@ decoded b s i n w y e d f =
 abbrev refusal : ℕ → Played
 refusal used = record { answer = Err Malformed; used = used }
 
-module _ (b : List ℕ) (i n : ℕ) (w : CodeWritten) (the_n : n ≡ readers b) (the_move : as_written w ≡ written b i)
-    (r r' : Run) where
+module _ (b : List ℕ) (i n : ℕ) (w : CodeWritten) (the_n : n ≡ readers b)
+    (the_move : as_written w ≡ written b i) (r r' : Run) where
   -- one move more, where y is what it asks for and x what it came to in the words a: its line is put, and it counts
   pub moved_on : (y : Asked) (x : Played) (a : MutBor (List ℕ)) → y ≡ asked n (as_written w)
       → as_outcome x a.now ≡ outcome b (state r.area.now r.used) y

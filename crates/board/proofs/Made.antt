@@ -36,7 +36,8 @@ module _ (k : Shape) (v : Record) (a : List ℕ) where
   takes {p} =
       go (known_form k.form && in_range k) refl (eqb (length a) (total (table k))) refl (leb (length v) k.c) refl
     where
-      go : (t : Bool) → known_form k.form && in_range k ≡ t → (s : Bool) → eqb (length a) (total (table k)) ≡ s
+      go : (t : Bool) → known_form k.form && in_range k ≡ t
+          → (s : Bool) → eqb (length a) (total (table k)) ≡ s
           → (l : Bool) → leb (length v) k.c ≡ l → Ok p ≡ result_by t s l → Takes k v a p
       go true e true f true g h =
           let here : p ≡ layout_of k = cc in
@@ -56,13 +57,16 @@ module _ (k : Shape) (v : Record) (a : List ℕ) where
       go true e false f l g h = absurd cc
       go false e s f l g h = absurd cc
 
-  pub refuses : {x : Refusal} → Err x ≡ making_result k (length a) (length v) → made k v a ≡ refused (number_of x) a
+  pub refuses : {x : Refusal} → Err x ≡ making_result k (length a) (length v)
+      → made k v a ≡ refused (number_of x) a
   unfolding making_result made
   refuses {x} =
       go (known_form k.form && in_range k) refl (eqb (length a) (total (table k))) refl (leb (length v) k.c) refl
     where
-      go : (t : Bool) → known_form k.form && in_range k ≡ t → (s : Bool) → eqb (length a) (total (table k)) ≡ s
-          → (l : Bool) → leb (length v) k.c ≡ l → Err x ≡ result_by t s l → made k v a ≡ refused (number_of x) a
+      go : (t : Bool) → known_form k.form && in_range k ≡ t
+          → (s : Bool) → eqb (length a) (total (table k)) ≡ s
+          → (l : Bool) → leb (length v) k.c ≡ l → Err x ≡ result_by t s l
+          → made k v a ≡ refused (number_of x) a
       go true e true f true g h = absurd cc
       go true e true f false g h = let n : x ≡ TooLong = cc in rw (e, f, g, n) refl
       go true e false f l g h = let n : x ≡ AnotherLength = cc in rw (e, f, n) refl

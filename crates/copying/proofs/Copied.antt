@@ -40,7 +40,8 @@ module _ (a : Area) {r : ℕ} (h : r < a.layout.n) where
 
   -- what step 4 stores before that
   pub room_taken : {b : Area} {k w i : ℕ} → Ready a
-      → After a (len r ≔ k ∷ desk_write_number r ≔ w ∷ pos r ≔ i ∷ []) b → (r < b.layout.n) × SumFits (memory_at b)
+      → After a (len r ≔ k ∷ desk_write_number r ≔ w ∷ pos r ≔ i ∷ []) b
+      → (r < b.layout.n) × SumFits (memory_at b)
   room_taken {b = b} {k = k} {w = w} {i = i} v f =
       let l = len r ≔ k ∷ desk_write_number r ≔ w ∷ pos r ≔ i ∷ [] in
       let later : memory_at b ≡ apply (memory_at a) l =

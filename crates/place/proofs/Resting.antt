@@ -60,7 +60,8 @@ pub record Own (p : Layout) (a : List ℕ) (r : ℕ) : Type 0 where
   pub words : 1 ≤ p.c
   pub within : desk_word (its_shape p) r 6 + memory_of p a (len r) ≤ length a
 
-pub own_facts : (a : List ℕ) (r : ℕ) → is_own a r ≡ true → {p : Layout} → p ≡ layout_of (shape_of a) → Own p a r
+pub own_facts : (a : List ℕ) (r : ℕ) → is_own a r ≡ true
+    → {p : Layout} → p ≡ layout_of (shape_of a) → Own p a r
 unfolding is_own
 own_facts a r o l =
     let test = test_passes (own_tests a r) (true_passes _ o) in

@@ -1,5 +1,6 @@
 -- What the place of a record means. Assumes nothing.
-use Rattle.std.specs.Prelude.{◌≡◌, List, ℕ, ◌+◌, ◌-◌, ◌≤◌, length, take, drop, Some, None, is_some}
+use Rattle.std.specs.Prelude.{◌≡◌, List, ℕ, ◌+◌, ◌-◌, ◌≤◌, length, take, drop}
+use Rattle.std.specs.Prelude.{Some, None, is_some}
 use Rattle.std.specs.declared.ops.Range.{Range}
 use Rattle.theory.specs.Place.{Record}
 use Rattle.register.specs.Calls.{is_own, shown}

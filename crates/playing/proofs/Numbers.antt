@@ -32,7 +32,8 @@ malformed_or_not : (n : ℕ) (w : Written) → Dec (Malformed n w)
 malformed_or_not n w =
     go (ℕ_discrete w.kind 0) (ℕ_discrete w.kind 1) (ℕ_discrete w.process n) (ℕ_discrete w.len 0)
   where
-    only : (w.kind ≢ 0 → w.kind ≡ 1) → (w.kind ≡ 1 → w.len ≡ 0) → (w.kind ≡ 0 → w.process ≢ n → w.len ≡ 0)
+    only : (w.kind ≢ 0 → w.kind ≡ 1) → (w.kind ≡ 1 → w.len ≡ 0)
+        → (w.kind ≡ 0 → w.process ≢ n → w.len ≡ 0)
         → ¬ Malformed n w
     only x y z (another_kind d e) = e (x d)
     only x y z (length_of_step d e) = e (y d)

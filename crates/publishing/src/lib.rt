@@ -40,7 +40,8 @@ pub fn clears_end(area: &mut Area<'_>) -> Answer
 fn clears(area: &mut Area<'_>, counter: usize, next: WriterPhase) -> Answer
     requires { Ready area.old × (counter < 2) }
     ensures answer { whole result area.new.words.now ≡ carried_at area.old.layout.n area.old
-        (accept (slot_field counter (memory_at area.old in_hand) ≔ 0 ∷ writer_phase ≔ writer_number next ∷ []) false) }
+        (accept (slot_field counter (memory_at area.old in_hand) ≔ 0
+        ∷ writer_phase ≔ writer_number next ∷ []) false) }
     ensures same { Same area.old area.new }
 {
     let hand = area.get(Place::WriterField(Layout::IN_HAND)) as usize;

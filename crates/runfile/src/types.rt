@@ -43,7 +43,8 @@ impl Header {
 
     // Whether the moves and the values are few enough, stand where they must and fill a file of this length.
     pub(crate) fn parts_pass(self, length: usize) -> bool
-        ensures { (b : List ℕ) → self ≡ header_of b → length ≡ List·length b → result ≡ all (part_tests b) }
+        ensures { (b : List ℕ) → self ≡ header_of b → length ≡ List·length b
+            → result ≡ all (part_tests b) }
     {
         let moves = self.moves as usize;
         let values = self.values as usize;

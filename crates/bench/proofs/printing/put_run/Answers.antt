@@ -26,4 +26,5 @@ returns c =
     let lines =
     coursing_done c.loop-i.invariant (omega (arith, ap (λ h. h.moves) c.header-h.ensures)) c.put_last.ensures in
     subst (λ q. Puts c.args.sheet.now q (run_text b)) (sym (search rules))
-    (run_puts b _ _ begun (c.from.ensures ∙ ap (λ h. h.starting) c.header-h.ensures) none_yet c.put_first.ensures lines)
+    (run_puts b _ _ begun (c.from.ensures ∙ ap (λ h. h.starting) c.header-h.ensures)
+    none_yet c.put_first.ensures lines)

@@ -20,6 +20,7 @@ write_begins-requires c = (passes c.args.area.now (sym c.in_ok-layout.was ∙ c.
 
 pub returns : goal.returns
 returns c =
-    let e = carries_out (passes c.args.area.now (sym c.in_ok-layout.was ∙ c.tested.ensures)) (write c.args.words.now) in
+    let passed = passes c.args.area.now (sym c.in_ok-layout.was ∙ c.tested.ensures) in
+    let e = carries_out passed (write c.args.words.now) in
     let f = c.write_begins.ensures.answer ∙ e in
     search rules

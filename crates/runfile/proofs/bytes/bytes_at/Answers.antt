@@ -10,7 +10,8 @@ use Rattle.runfile.specs.Bytes.{bytes_at}
 use Rattle.runfile.proofs.bytes.bytes_at.Goals as goal
 
 module _ {F : Type 0} (g : Mut F (ℕ × Unit {0}) ℕ) (f : F) (b : List ℕ) (at : ℕ)
-    (one : (i y : ℕ) (q : F) → Called g f (i, tt) y q → (y ≡ get_or b (at + i) 0) × (q ≡ f)) (l : List ℕ) where
+    (one : (i y : ℕ) (q : F) → Called g f (i, tt) y q → (y ≡ get_or b (at + i) 0) × (q ≡ f))
+    (l : List ℕ) where
   -- calls at the n indices from i on gave the bytes from there on
   called : (n i j : ℕ) (p : F) → p ≡ f → j ≡ at + i → length l ≡ i + n → IsFromFnResultFrom g p l i n
       → drop i l ≡ bytes_at n b j
