@@ -7,7 +7,7 @@ use Rattle.area.specs.Words.{words_after, its_shape}
 use Rattle.area.specs.Lent.{After}
 use Rattle.area.specs.declared.lent.Area.{Area}
 
-store_append : (t : Table) (a : List ℕ) (k l : List Store) → store t (store t a k) l ≡ store t a (k ++ l)
+pub store_append : (t : Table) (a : List ℕ) (k l : List Store) → store t (store t a k) l ≡ store t a (k ++ l)
 store_append t a [] l = refl
 store_append t a (s ∷ k) l = store_append t (set a (address t s.place) s.value) k l
 

@@ -149,7 +149,7 @@ impl Run<'_, '_, '_> {
     {
         // A `&mut` of the words: tried as a `&`, which has no proof beside the sheet.
         let area = &mut *self.area;
-        lines::put_move(self.sheet, n, i, w, x, area);
+        lines::put_move(self.sheet, n, i, w, x.answer.into(), area);
         self.used = x.used;
         self.tally = self
             .tally

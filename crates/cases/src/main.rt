@@ -69,5 +69,9 @@ fn arguments<R: Env>(rt: &R) -> usize {
 fn main(rt: HostRuntime) {
     let count = arguments(&rt) / 2;
     let held = all(&rt, count);
-    let _ = println!(rt; "{held} of {count} cases hold");
+    // In pieces: an output that takes some of them and no more keeps those.
+    let _ = print!(rt; "{held}");
+    let _ = print!(rt; " of ");
+    let _ = print!(rt; "{count}");
+    let _ = println!(rt; " cases hold");
 }

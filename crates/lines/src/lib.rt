@@ -8,18 +8,37 @@ ghost use Rattle.text.specs.Sheet.{Puts};
 ghost use Rattle.tally.specs.Tally.{as_tally};
 ghost use Rattle.lines.specs.OneLine.{letter as one_line_letter};
 ghost use Rattle.lines.specs.OneLine.{answer_line, first_line, last_line, refused_text};
-ghost use Rattle.playing.specs.Code.{as_outcome};
+ghost use Rattle.lines.specs.Code.{answered, as_answered};
 
 use answer::refusals::Refusal;
-use answer::told;
+use answer::{Answer, told};
 use area::Layout;
 use board::showing;
-use playing::types::Played;
 use runfile::file;
 use runfile::kind::Kind;
 use runfile::types::Written;
 use tally::Tally;
 use text::Sheet;
+
+// What a move was answered, as its line tells it. Any number, flag and age are printed, also those of no `Answer`.
+#[derive(Clone, Copy, Debug, PartialEq, Eq)]
+pub struct Answered {
+    pub number: u64,
+    pub ended: bool,
+    pub age: u64,
+}
+
+impl From<Answer> for Answered {
+    ghost from_gives = { λ x r. r ≡ as_answered x };
+
+    fn from(answer: Answer) -> Self {
+        Answered {
+            number: told::number(answer),
+            ended: told::ended(answer),
+            age: told::age(answer),
+        }
+    }
+}
 
 // B for a begin, S for a step, ? for another kind.
 fn letter(kind: u64) -> u8
@@ -32,18 +51,17 @@ fn letter(kind: u64) -> u8
     }
 }
 
-// The line of move i of a run with n readers: as it was written, what it came to, and the area as it left it.
-pub fn put_move(sheet: &mut Sheet, n: u64, i: u32, w: Written, x: Played, area: &[u64])
+// The line of move i of a run with n readers: as it was written, what it was answered, and the area as it left it.
+pub fn put_move(sheet: &mut Sheet, n: u64, i: u32, w: Written, x: Answered, area: &[u64])
     ensures { Puts sheet.old sheet.new
-        (answer_line n i (as_written w) (as_outcome x area.now).answer) }
+        (answer_line n i (as_written w) (answered x area.now)) }
 {
     sheet.put_number(u64::from(i));
     sheet.put_field(w.process);
     sheet.put_all(&[b' ', letter(w.kind)]);
-    let ended = told::ended(x.answer);
-    sheet.put_fields(&[told::number(x.answer), u64::from(ended)]);
-    if ended && w.process < n {
-        sheet.put_field(told::age(x.answer));
+    sheet.put_fields(&[x.number, u64::from(x.ended)]);
+    if x.ended && w.process < n {
+        sheet.put_field(x.age);
         sheet.put_fields(showing::show_one(area, w.process, &[]));
     }
     sheet.put(b'\n');

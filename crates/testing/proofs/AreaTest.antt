@@ -1,18 +1,30 @@
 -- The layout that an area names fits it, and test 2 over that layout is test 2. Assumes nothing.
-use mathlib.Core.Bool.{Bool, true, false, cond}
+use mathlib.Core.Bool.{Bool, true, false, ◌&&◌, cond}
 use mathlib.Core.Path.{◌≡◌, refl, sym, ap, ◌∙◌}
 use mathlib.Core.List.{List}
 use Prim.Native.Nat.{ℕ}
 use Rattle.std.specs.Prelude.{Some, None}
+use lib.Dec.{eqb}
+use lib.ListN.{length, get_or}
 use Rattle.theory.specs.Table.{total}
 use Rattle.register.specs.Shape.{table}
 use Rattle.register.specs.Area.{shape_of, is_area, memory_tests, undamaged}
 use Rattle.theory.specs.Lists.{all}
+use Rattle.theory.proofs.Joined.{five}
 use Rattle.register.proofs.Facts.{area_facts}
 use Rattle.area.specs.declared.Layout.{Layout}
 use Rattle.area.specs.Words.{its_shape, layout_of, Sized, memory_of}
 use Rattle.area.proofs.Sizes.{laid_of}
-use Rattle.testing.specs.Test.{named}
+use Rattle.testing.specs.Test.{fit_tests, named}
+
+-- the tests by the layout, as the code joins them
+pub fit_joined : (p : Layout) (a : List ℕ)
+    → eqb (get_or a 3 0) p.total && eqb (get_or a 4 0) p.slots && eqb (get_or a 5 0) p.desks
+    && eqb (get_or a 6 0) p.writer && eqb (length a) p.total
+    ≡ all (fit_tests p a)
+fit_joined p a =
+    five (eqb (get_or a 3 0) p.total) (eqb (get_or a 4 0) p.slots) (eqb (get_or a 5 0) p.desks)
+    (eqb (get_or a 6 0) p.writer) (eqb (length a) p.total)
 
 module _ (a : List ℕ) (p : Layout) (e : p ≡ layout_of (shape_of a)) where
   -- an area has the words that its layout says

@@ -25,6 +25,10 @@ test_number a = cond (is_area a) (cond (undamaged a) 0 2) 1
 abbrev pub named : List ℕ → Option Layout
 named a = cond (is_area a) (Some (layout_of (shape_of a))) None
 
+-- why words are no undamaged area, if they are none
+unfoldable pub refusal_of : List ℕ → Option Refusal
+refusal_of a = cond (is_area a) (cond (undamaged a) None (Some Damaged)) (Some NotAnArea)
+
 -- the layout that an undamaged area names, or why words are none
 unfoldable pub test_result : List ℕ → Result Layout Refusal
 test_result a = cond (is_area a) (cond (undamaged a) (Ok (layout_of (shape_of a))) (Err Damaged)) (Err NotAnArea)

@@ -3,7 +3,7 @@
 // is undamaged.
 ghost use Rattle.std.specs.Prelude.{◌≡◌, ◌≤◌, length};
 ghost use Rattle.theory.specs.Lists.{all};
-ghost use Rattle.testing.specs.Test.{fit_tests, named, test_result};
+ghost use Rattle.testing.specs.Test.{fit_tests, named, refusal_of, test_result};
 
 use answer::refusals::Refusal;
 use area::lent::View;
@@ -38,20 +38,33 @@ fn named(area: &[u64]) -> Option<Layout>
     fits(area, p).then_some(p)
 }
 
-// The layout that an undamaged area names, or why words are none.
-#[tactic(auto, unfolding(crate::specs::Test::test_result), using(crate::proofs::AreaTest::undamaged_is))]
-pub fn tested(area: &[u64]) -> Result<Layout, Refusal>
-    ensures { result ≡ test_result area.now }
+// Why words are no undamaged area, if they are none. It is left out of line, and hands no layout back: that would come
+// in memory.
+#[tactic(auto, unfolding(crate::specs::Test::refusal_of), using(crate::proofs::AreaTest::undamaged_is))]
+fn refusal(area: &[u64]) -> Option<Refusal>
+    ensures { result ≡ refusal_of area.now }
 {
     let Some(layout) = named(area) else {
-        return Err(Refusal::NotAnArea);
+        return Some(Refusal::NotAnArea);
     };
     let view = View {
         words: area,
         layout,
     };
     if !sound::undamaged(&view) {
-        return Err(Refusal::Damaged);
+        return Some(Refusal::Damaged);
     }
-    Ok(layout)
+    None
+}
+
+// The layout that an undamaged area names, or why words are none. It is inlined: each call keeps of the layout what it
+// needs.
+#[inline(always)]
+pub fn tested(area: &[u64]) -> Result<Layout, Refusal>
+    ensures { result ≡ test_result area.now }
+{
+    match refusal(area) {
+        Some(refusal) => Err(refusal),
+        None => Ok(header::layout(area)),
+    }
 }

@@ -40,7 +40,11 @@ put_twice s t u =
     omega arith in
     rw (ends, pasted_twice l i (min (length l) (i + length t)) t u refl)
 
--- as methods tell it, one by one
+-- as functions tell it, one by one
+pub then_put : (s : Sheet) (t u : Text) {r q : Sheet} → r ≡ put s t → q ≡ put r u → q ≡ put s (t ++ u)
+then_put s t u e d = d ∙ ap (λ z. put z u) e ∙ put_twice s t u
+
+-- as methods tell it
 pub then_puts : {s r q : code.Sheet} {t u : Text} → Puts s r t → Puts r q u → Puts s q (t ++ u)
 then_puts {s} {t = t} {u = u} p d =
     record {

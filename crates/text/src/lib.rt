@@ -2,7 +2,8 @@
 // A text that grows in lent bytes. What finds no room is left out; nothing outside the bytes is touched.
 ghost use Rattle.std.specs.Prelude.{[], ◌∷◌, map, ◌≡◌};
 ghost use Rattle.text.specs.Lines.{blank, decimal, behind_blanks, same_text};
-ghost use Rattle.text.specs.Sheet.{Puts};
+ghost use Rattle.text.specs.Sheet.{sheet, Puts};
+ghost use Rattle.text.specs.Sheet.{put as sheet_put};
 
 // Lent bytes, since there is no heap, and where the text in them ends. No `Display`: what a text without room leaves is
 // said too (`Puts`), and `put_all` and `put_fields` are no plainer as one loop over a closure.
@@ -17,22 +18,20 @@ impl Sheet<'_> {
     pub fn put(&mut self, byte: u8)
         ensures { Puts self.old self.new (byte ∷ []) }
     {
-        if self.end < self.bytes.len() {
-            self.bytes[self.end] = byte;
-            self.end += 1;
-        } else {
-            self.end = self.bytes.len();
-        }
+        self.end = put_byte(self.bytes, self.end, byte);
     }
 
     // All of these bytes, one behind another.
     pub fn put_all(&mut self, bytes: &[u8])
         ensures { Puts self.old self.new bytes.now }
     {
-        self.end_within();
+        let out = &mut *self.bytes;
+        let at = self.end.min(out.len());
+        let mut end = at;
         for &byte in bytes {
-            self.put(byte);
+            end = put_byte(out, end, byte);
         }
+        self.end = end;
     }
 
     // A text that is said to end past the bytes ends where they do.
@@ -67,6 +66,19 @@ impl Sheet<'_> {
         for &word in words {
             self.put_field(word);
         }
+    }
+}
+
+// One byte behind the text that ends there: where it ends then. By value, so that a loop keeps the end in a register:
+// of a lent sheet it goes through memory, since a store to the bytes may be one to the sheet, for all a compiler knows.
+fn put_byte(bytes: &mut [u8], end: usize, byte: u8) -> usize
+    ensures { sheet bytes.new result ≡ sheet_put (sheet bytes.old end) (byte ∷ []) }
+{
+    if end < bytes.len() {
+        bytes[end] = byte;
+        end + 1
+    } else {
+        bytes.len()
     }
 }
 
