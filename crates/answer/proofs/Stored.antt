@@ -1,5 +1,5 @@
 -- Laws that the proofs of the moves and the calls share. Assumes nothing.
---     bound_slot, hand_slot            the slot of a reader's desk, and the writer's slot in hand, are the area's
+--     hand_slot                        the writer's slot in hand is one of the area's
 --     then                             stores behind stores
 --     plan_refuses                     a refusal by its number
 --     refuses, accepts, ends_write     answers that carry a plan out: a refusal, nothing ended, a write ended
@@ -9,7 +9,7 @@ use Rattle.std.specs.Prelude.{Ok, Err, Some, None}
 use borrow.Author.Tests.{le-ltb}
 use Rattle.register.specs.Shape.{table}
 use Rattle.theory.specs.Place.{Store}
-use Rattle.register.specs.Area.{last, in_hand}
+use Rattle.register.specs.Area.{in_hand}
 use Rattle.register.specs.Steps.{Plan, refuse, accept}
 use Rattle.register.specs.Conditions.{Whole}
 use Rattle.area.specs.Words.{memory_of, words_after, its_shape}
@@ -19,13 +19,7 @@ use Rattle.answer.specs.declared.refusals.Refusal.{Refusal}
 use Rattle.answer.specs.Refusals.{Returned, number_of, answer_number, has_ended, answer_age}
 use Rattle.answer.specs.Carried.{whole, carried}
 
--- the slot that a reader is bound to is one of the area's
-pub bound_slot : (p : Layout) (a : List ℕ) {r s : ℕ} → Whole (its_shape p) (memory_of p a) → r < p.n
-    → s ≡ memory_of p a (last r)
-    → s < p.n + 2
-bound_slot p a {r = r} v h e = rw e (v.desk r h).slot
-
--- and so is the one that the writer has in hand
+-- the slot that the writer has in hand is one of the area's
 pub hand_slot : (p : Layout) (a : List ℕ) {s : ℕ} → Whole (its_shape p) (memory_of p a)
     → s ≡ memory_of p a in_hand
     → s < p.n + 2

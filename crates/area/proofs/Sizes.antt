@@ -4,7 +4,7 @@ use Prim.Native.Nat.{ℕ, ◌+◌, ◌*◌, ◌≤◌, ◌<◌}
 use native.Mathlib.Nat.{mul-le-mul}
 use native.Mathlib.Omega.{arith}
 use Rattle.theory.specs.Table.{offset, width, total}
-use Rattle.register.specs.Shape.{Shape, limit, table}
+use Rattle.register.specs.Shape.{Shape, table}
 use Rattle.theory.proofs.Tables.{row_within}
 use Rattle.area.specs.declared.Layout.{Layout}
 use Rattle.area.specs.Words.{word_at, layout_of, its_shape, Laid}
@@ -44,10 +44,6 @@ module _ {p : Layout} (l : Laid p) where
   -- the number of words that a layout says
   pub total_is : p.total ≡ total (table (its_shape p))
   total_is = ap (λ q. q.total) l.exact
-
-  -- the limit that it says
-  pub limit_is : p.limit ≡ limit (its_shape p)
-  limit_is = ap (λ q. q.limit) l.exact
 
   -- its area is small
   laid_small : total (table (its_shape p)) ≤ largest

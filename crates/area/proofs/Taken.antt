@@ -1,11 +1,10 @@
--- A shape that making takes, by the test that the code asks. Assumes nothing.
-use mathlib.Core.Bool.{Bool, true, false, ◌&&◌, not}
+-- A shape that making takes. Assumes nothing.
+use mathlib.Core.Bool.{true, ◌&&◌}
 use mathlib.Core.Path.{◌≡◌}
 use Prim.Native.Nat.{◌≤◌}
 use Rattle.register.specs.Shape.{Shape, known_form, in_range}
 use Rattle.register.proofs.Facts.{range_facts}
 use Rattle.theory.proofs.Tests.{both, true_passes}
-use Rattle.area.proofs.Asked.{was_no, was_yes}
 
 -- the form is known, and N and C are in range
 pub record Taken (k : Shape) : Type 0 where
@@ -18,12 +17,3 @@ pub passed_taken : {k : Shape} → known_form k.form && in_range k ≡ true → 
 passed_taken {k} e =
     let range = range_facts k (both (known_form k.form) (in_range k) (true_passes _ e)).1 in
     record { known = e; few_readers = range.few_readers; few_words = range.few_words }
-
-module _ (k : Shape) {r : Bool} (e : r ≡ known_form k.form && in_range k) where
-  -- the test failed
-  pub not_taken : not r ≡ true → known_form k.form && in_range k ≡ false
-  not_taken h = was_no e h
-
-  -- it passed
-  pub taken_of : not r ≡ false → Taken k
-  taken_of h = passed_taken (was_yes e h)

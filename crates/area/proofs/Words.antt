@@ -1,7 +1,6 @@
 -- The words of an area as its places. The word read at i, where `Layout` says that it stands, is what the memory
 -- holds: `slot_field_is`, `contents_is`, `desk_field_is`, `writer_field_is`, `write_record_is`. The word set there is
--- a store: `slot_field_set`, `contents_set`, `desk_field_set`, `read_record_set`, `writer_field_set`,
--- `write_record_set`. Assumes nothing.
+-- a store: `contents_set`, `read_record_set`, `write_record_set`. Assumes nothing.
 use mathlib.Core.Path.{◌≡◌, sym, ap, ◌∙◌}
 use mathlib.Core.List.{List, [], ◌∷◌}
 use Prim.Native.Nat.{ℕ, ◌+◌, ◌<◌}
@@ -66,28 +65,13 @@ module _ (k : Shape) (a : List ℕ) {i : ℕ} where
 -- ---- the same places: a word set at i
 
 module _ (k : Shape) (a : List ℕ) {i : ℕ} (v : ℕ) where
-  pub slot_field_set : (f s : ℕ) → f < 4 → i ≡ slot_word k s f
-      → set a i v ≡ store (table k) a (slot_field f s ≔ v ∷ [])
-  slot_field_set f s h e =
-      set_is (table k) a (slot_field f s) v (e ∙ first_word (table k) 1 f s (slot_offset k f (omega arith)))
-
   pub contents_set : (s j : ℕ) → i ≡ slot_word k s (4 + j)
       → set a i v ≡ store (table k) a (contents s j ≔ v ∷ [])
   contents_set s j = set_is (table k) a (contents s j) v
 
-  pub desk_field_set : (f r : ℕ) → f < 6 → i ≡ desk_word k r f
-      → set a i v ≡ store (table k) a (desk_field f r ≔ v ∷ [])
-  desk_field_set f r h e =
-      set_is (table k) a (desk_field f r) v (e ∙ first_word (table k) 2 f r (desk_offset k f (omega arith)))
-
   pub read_record_set : (r j : ℕ) → i ≡ desk_word k r (6 + j)
       → set a i v ≡ store (table k) a (read_record r j ≔ v ∷ [])
   read_record_set r j = set_is (table k) a (read_record r j) v
-
-  pub writer_field_set : (f : ℕ) → f < 7 → i ≡ writer_word k f
-      → set a i v ≡ store (table k) a (writer_field f ≔ v ∷ [])
-  writer_field_set f h e =
-      set_is (table k) a (writer_field f) v (e ∙ first_word (table k) 3 f 0 (writer_offset k f (omega arith)))
 
   pub write_record_set : (j : ℕ) → i ≡ writer_word k (7 + j)
       → set a i v ≡ store (table k) a (write_record j ≔ v ∷ [])

@@ -4,7 +4,7 @@ use mathlib.Core.Bool.{Bool, true, false, cond}
 use mathlib.Core.Path.{◌≡◌, refl}
 use mathlib.Core.List.{List}
 use Prim.Native.Nat.{ℕ}
-use Rattle.std.specs.Prelude.{Ok, Err, Some, None}
+use Rattle.std.specs.Prelude.{Result, Ok, Err, Some, None}
 use Rattle.register.specs.Area.{shape_of, is_area, undamaged}
 use Rattle.register.specs.Steps.{Move}
 use Rattle.register.specs.Calls.{refused, answered}
@@ -15,7 +15,7 @@ use Rattle.area.specs.Words.{layout_of, its_shape, memory_of, Sized}
 use Rattle.answer.specs.declared.refusals.Refusal.{Refusal}
 use Rattle.answer.specs.declared.refusals.Refusal.TheVariants.{NotAnArea, Damaged}
 use Rattle.answer.specs.Refusals.{number_of}
-use Rattle.testing.specs.Test.{test_number, refusal_of, test_result, result_number}
+use Rattle.testing.specs.Test.{test_number, test_result, why, result_number}
 use Rattle.testing.proofs.AreaTest.{sized}
 
 -- words that pass the test, and the layout that they name
@@ -25,6 +25,11 @@ pub record Passes (p : Layout) (a : List ℕ) : Type 0 where
   pub layout : p ≡ layout_of (shape_of a)
   pub sized : Sized p a
   pub sound : Whole (its_shape p) (memory_of p a)
+
+-- a result by the refusal in it
+pub refused_by : (r : Result Layout Refusal) {e : Refusal} → Some e ≡ why r → Err e ≡ r
+refused_by (Ok p) h = absurd cc
+refused_by (Err e) h = cc
 
 module _ (a : List ℕ) where
   -- its number is that of the test
@@ -37,32 +42,6 @@ module _ (a : List ℕ) where
       go true true = refl
       go true false = refl
       go false u = refl
-
-  -- a refusal is the result
-  pub refused_by : {why : Refusal} → Some why ≡ refusal_of a → Err why ≡ test_result a
-  unfolding refusal_of test_result
-  refused_by {why} = go (is_area a) (undamaged a)
-    where
-      go : (b u : Bool) → Some why ≡ cond b (cond u None (Some Damaged)) (Some NotAnArea)
-          → Err why ≡ cond b (cond u (Ok (layout_of (shape_of a))) (Err Damaged)) (Err NotAnArea)
-      go true true h = absurd cc
-      go true false h = let n : why ≡ Damaged = cc in rw n refl
-      go false u h = let n : why ≡ NotAnArea = cc in rw n refl
-
-  -- none: both tests pass
-  pub none_refuses : None ≡ refusal_of a → (is_area a ≡ true) × (undamaged a ≡ true)
-  unfolding refusal_of
-  none_refuses = go (is_area a) (undamaged a)
-    where
-      go : (b u : Bool) → None ≡ cond b (cond u None (Some Damaged)) (Some NotAnArea) → (b ≡ true) × (u ≡ true)
-      go true true h = (refl, refl)
-      go true false h = absurd cc
-      go false u h = absurd cc
-
-  -- the area's layout is the result then
-  pub named_by : {p : Layout} → None ≡ refusal_of a → p ≡ layout_of (shape_of a) → Ok p ≡ test_result a
-  unfolding test_result
-  named_by h l = let t = none_refuses h in rw (l, t.0, t.1) refl
 
   -- a layout: both tests pass, and it is the area's
   pub passes : {p : Layout} → Ok p ≡ test_result a → Passes p a
@@ -82,6 +61,18 @@ module _ (a : List ℕ) where
           }
       go true e false f h = absurd cc
       go false e u f h = absurd cc
+
+  -- no refusal: the area's layout is the result
+  pub named_by : None ≡ why (test_result a) → Ok (layout_of (shape_of a)) ≡ test_result a
+  unfolding test_result
+  named_by = go (is_area a) (undamaged a)
+    where
+      go : (b u : Bool) → None ≡ why (cond b (cond u (Ok (layout_of (shape_of a))) (Err Damaged)) (Err NotAnArea))
+          → Ok (layout_of (shape_of a))
+          ≡ cond b (cond u (Ok (layout_of (shape_of a))) (Err Damaged)) (Err NotAnArea)
+      go true true h = refl
+      go true false h = absurd cc
+      go false u h = absurd cc
 
   -- a refusal: every call on an existing area refuses by its number
   pub refuses : (x : Move) {why : Refusal} → Err why ≡ test_result a

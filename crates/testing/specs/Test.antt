@@ -1,5 +1,6 @@
 -- What the test of any words gives: a layout, or a refusal. Assumes nothing.
-use Rattle.std.specs.Prelude.{Bool, cond, List, [], ◌∷◌, ℕ, eqb, length, get_or, Result, Ok, Err, Option, Some, None}
+use Rattle.std.specs.Prelude.{Bool, cond, List, [], ◌∷◌, ℕ, eqb, length, get_or}
+use Rattle.std.specs.Prelude.{Result, Ok, Err, Option, Some, None}
 use Rattle.register.specs.Area.{shape_of, is_area, undamaged}
 use Rattle.area.specs.declared.Layout.{Layout}
 use Rattle.area.specs.Words.{layout_of}
@@ -25,13 +26,14 @@ test_number a = cond (is_area a) (cond (undamaged a) 0 2) 1
 abbrev pub named : List ℕ → Option Layout
 named a = cond (is_area a) (Some (layout_of (shape_of a))) None
 
--- why words are no undamaged area, if they are none
-unfoldable pub refusal_of : List ℕ → Option Refusal
-refusal_of a = cond (is_area a) (cond (undamaged a) None (Some Damaged)) (Some NotAnArea)
-
 -- the layout that an undamaged area names, or why words are none
 unfoldable pub test_result : List ℕ → Result Layout Refusal
 test_result a = cond (is_area a) (cond (undamaged a) (Ok (layout_of (shape_of a))) (Err Damaged)) (Err NotAnArea)
+
+-- the refusal in such a result, if there is one
+abbrev pub why : Result Layout Refusal → Option Refusal
+why (Ok p) = None
+why (Err e) = Some e
 
 -- the number that document 01 gives such a result
 abbrev pub result_number : Result Layout Refusal → ℕ

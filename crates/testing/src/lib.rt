@@ -3,7 +3,7 @@
 // is undamaged.
 ghost use Rattle.std.specs.Prelude.{◌≡◌, ◌≤◌, length};
 ghost use Rattle.theory.specs.Lists.{all};
-ghost use Rattle.testing.specs.Test.{fit_tests, named, refusal_of, test_result};
+ghost use Rattle.testing.specs.Test.{fit_tests, named, test_result, why};
 
 use answer::refusals::Refusal;
 use area::lent::View;
@@ -40,9 +40,9 @@ fn named(area: &[u64]) -> Option<Layout>
 
 // Why words are no undamaged area, if they are none. It is left out of line, and hands no layout back: that would come
 // in memory.
-#[tactic(auto, unfolding(crate::specs::Test::refusal_of), using(crate::proofs::AreaTest::undamaged_is))]
+#[tactic(auto, unfolding(crate::specs::Test::test_result), using(crate::proofs::AreaTest::undamaged_is))]
 fn refusal(area: &[u64]) -> Option<Refusal>
-    ensures { result ≡ refusal_of area.now }
+    ensures { result ≡ why (test_result area.now) }
 {
     let Some(layout) = named(area) else {
         return Some(Refusal::NotAnArea);
