@@ -22,6 +22,7 @@ impl Sheet<'_> {
     }
 
     // All of these bytes, one behind another.
+    #[tactic(auto, using(crate::proofs::Sheets::put_nothing))]
     pub fn put_all(&mut self, bytes: &[u8])
         ensures { Puts self.old self.new bytes.now }
     {
@@ -71,6 +72,7 @@ impl Sheet<'_> {
 
 // One byte behind the text that ends there: where it ends then. By value, so that a loop keeps the end in a register:
 // of a lent sheet it goes through memory, since a store to the bytes may be one to the sheet, for all a compiler knows.
+#[tactic(auto, using(crate::proofs::Sheets::put_byte, crate::proofs::Sheets::put_past))]
 fn put_byte(bytes: &mut [u8], end: usize, byte: u8) -> usize
     ensures { sheet bytes.new result ≡ sheet_put (sheet bytes.old end) (byte ∷ []) }
 {
